@@ -1,29 +1,30 @@
 /* SPDX-License-Identifier: MIT OR Apache-2.0
  *
- * Digital Command Control (DCC) for C and C++: find packets in half-bits, read and send packets, simulate decoders,
- * read CVs, run a command station.
+ * Digital Command Control (DCC) for C and C++. The library finds packets in half-bits, reads and sends packets,
+ * simulates decoders, reads CVs, and runs a command station.
  *
  * Each function reads and writes only its arguments, allocates nothing, has no state of its own, and returns. The
- * library is proved (docs/C.md). The code that calls it is not. The caller must obey these rules, which nothing
- * checks:
+ * library is proved (docs/C.md). The code that calls the library is not proved. The caller must obey these rules,
+ * which nothing checks:
  *
- * - Objects are whole. They come from a function named _new or _start, or are whole copies of such objects.
+ * - Objects are whole. An object comes from a function whose name ends in _new, _power_up or _start, or is a whole
+ *   copy of an object from one of these functions.
  * - A dcc_framer, a dcc_sender and a dcc_station are opaque: do not write to their fields. If all bytes are zero, a
  *   dcc_framer is new, a dcc_sender has no half-bit left, and a dcc_station accepts no command.
  * - A dcc_sender is all zeros before its first dcc_sender_start, and a dcc_station before its first dcc_station_new.
  * - The fields of all other objects may be read and changed. A function returns 13 if the values are impossible for
  *   a decoder or a reading. The fields of a dcc_timing may have any values. A bool is 0 or 1.
- * - Pointers are not null, are aligned, and point to as many items as the function says. They are not null even if a
- *   length is 0.
+ * - Pointers are not null, are aligned, and point to as many items as the function says. A pointer is not null even
+ *   if a length is 0.
  * - The objects and arrays of one call do not overlap.
- * - Only one thread uses an object at a time. An interrupt counts as a thread: give it objects of its own, or disable
- *   it around the calls of the main program.
+ * - Only one thread uses an object at a time. An interrupt counts as a thread. Give an interrupt objects of its own,
+ *   or disable the interrupt around the calls of the main program.
  *
  * If the caller breaks one of these rules, the behaviour is undefined, as with memcpy.
  *
  * There are archives for 64-bit Linux on x86-64 and aarch64. tools/c-for-mcu makes archives for Cortex-M0+, M3, M4 and
- * RISC-V rv32imac. Every other little-endian target, for example AVR, compiles dcc.c, which tools/c-source writes. The
- * proofs use 64-bit lengths, so lengths are uint64_t on each target. docs/C.md says what is trusted.
+ * RISC-V rv32imac. For every other little-endian target, for example AVR, compile dcc.c, which tools/c-source writes.
+ * The proofs use 64-bit lengths, so lengths are uint64_t on each target. docs/C.md lists what you trust.
  */
 #ifndef DCC_H
 #define DCC_H
@@ -35,7 +36,8 @@
 extern "C" {
 #endif
 
-/* A byte that other targets leave free, so that all objects have the same bytes: AVR aligns nothing. */
+/* A byte of padding. Compilers for AVR align nothing, so on AVR this macro inserts the padding that compilers for other
+ * targets insert. So an object has the same layout on each target. */
 #ifdef __AVR__
 #define DCC_FREE_BYTE unsigned : 8;
 #else
@@ -45,8 +47,8 @@ extern "C" {
 /* The version of this header and of the library, as `dcc --version` prints it. */
 #define DCC_VERSION "0.1.0"
 
-/* Error codes. A function returns the number of the error, or stores it in the field refusal of an outcome. The letter
- * says what is refused. */
+/* Error codes. A function returns the number of an error code, or stores this number in the field refusal of an
+ * outcome. The letter of an error code says which kind of value is refused. */
 enum { /* H1 to H5: half-bits, as refusals in outcomes; H6 to H8: timings */
     DCC_H1_BAD_HALF = 1, DCC_H2_SPLIT_BIT, DCC_H3_TOO_SHORT, DCC_H4_TOO_LONG, DCC_H5_ERROR_BYTE, DCC_H6_ONE,
     DCC_H7_ZERO, DCC_H8_PREAMBLE
@@ -62,8 +64,9 @@ enum { DCC_C1_SIZES = 1, DCC_C2_MEMORY, DCC_C3_NO_COMMAND, DCC_C4_QUEUE_FULL }; 
 /* The number of ones before a packet, on the main track (NMRA S-9.2) and on the programming track (S-9.2.3). */
 enum { DCC_MAIN_TRACK = 14, DCC_PROGRAMMING_TRACK = 20 };
 
-/* The bytes of a frame, the error byte last, followed by zeros. len is 0 if there is no frame, else 3 to 6. The
- * functions write no other len. If the pending frame of a decoder has another len, its functions return 13. */
+/* The bytes of a frame with the error byte last, and then zeros. The field len is 0 if there is no frame, else 3 to 6.
+ * The functions write no other len. If the pending frame of a decoder has another len, the functions of the decoder
+ * return 13. */
 typedef struct {
     uint8_t len;
     uint8_t bytes[6];
@@ -71,34 +74,37 @@ typedef struct {
 
 /* ---- packets in half-bits (NMRA S-9.1, S-9.2) ---- */
 
-/* Finds packets in half-bits. Opaque: do not read or write its fields. All zeros are a new framer, as
- * dcc_framer_new returns it, so `static dcc_framer framer;` needs no call. */
+/* A framer, which finds packets in half-bits. The struct is opaque: do not read or write its fields. If all bytes are
+ * zero, the framer is new, as after dcc_framer_new. So `static dcc_framer framer;` needs no call. */
 typedef struct {
     uint64_t kept[3];
 } dcc_framer;
 
 /* A packet, or a refusal. */
 typedef struct {
-    uint32_t at;     /* the number of its last half-bit in the run of dcc_push_run, from 1; otherwise 1 */
+    uint32_t at;     /* from dcc_push_run: the number of the last half-bit of the outcome in the run, counted from 1.
+                        From all other functions: 1 */
     uint8_t refusal; /* 0 for a packet, else 1 to 5: H1 a half-bit of a wrong length, H2 a bit of two different
                         half-bits, H3 fewer than 3 bytes, H4 more than 6 bytes, H5 a wrong error byte */
-    dcc_frame frame; /* the bytes of a packet or of H5; len is 0 with H1 to H4 */
+    dcc_frame frame; /* the frame of a packet, or the refused bytes of H5; len is 0 for H1 to H4 */
 } dcc_outcome;
 
-/* Returns a framer that was given no half-bits. */
+/* Returns a new framer, which has seen no half-bits. */
 dcc_framer dcc_framer_new(void);
 
 /* Takes a half-bit of us microseconds. Returns 1 if the half-bit completes a packet or a refusal, and stores the
  * outcome in *outcome. Otherwise returns 0 and leaves *outcome unchanged. */
 uint8_t dcc_push(dcc_framer *framer, uint16_t us, dcc_outcome *outcome);
 
-/* Takes n half-bits of us microseconds, as n calls of dcc_push would. At most one of them completes a packet or a
- * refusal. Returns the same values as dcc_push. */
+/* Takes n half-bits of us microseconds, as n calls of dcc_push would. At most one of these half-bits completes a
+ * packet or a refusal. If one of them does, returns 1 and stores the outcome in *outcome. Otherwise returns 0 and
+ * leaves *outcome unchanged. */
 uint8_t dcc_push_run(dcc_framer *framer, uint16_t us, uint32_t n, dcc_outcome *outcome);
 
 /* Takes the half-bits of an array in order, as calls of dcc_push would, up to the first half-bit that completes a
- * packet or a refusal. Writes the number of half-bits that it took to *taken. Returns the same values as dcc_push. If
- * the result is 0, *taken is len. */
+ * packet or a refusal. Writes the number of half-bits that the function took to *taken. If a half-bit completes a
+ * packet or a refusal, returns 1 and stores the outcome in *outcome. Otherwise returns 0, leaves *outcome unchanged,
+ * and writes len to *taken. */
 uint8_t dcc_push_many(dcc_framer *framer, const uint16_t *halves, uint64_t len, dcc_outcome *outcome,
                       uint64_t *taken);
 
@@ -109,52 +115,54 @@ enum { /* kinds of packets */
     DCC_CV_BIT_WRITE, DCC_CV_BIT_VERIFY, DCC_ACCESSORY, DCC_SIGNAL, DCC_OTHER
 };
 
-enum { DCC_ALL, DCC_SHORT, DCC_LONG }; /* kinds of addresses; for a decoder's own address, 0 means no address */
+enum { DCC_ALL, DCC_SHORT, DCC_LONG }; /* kinds of addresses; in the state of a decoder, 0 means no address */
 
-/* The content of a packet. Fields that its kind does not use are 0. */
+/* The content of a packet. Fields that the kind of the packet does not use are 0. A comment names the kinds that use
+ * the field, without DCC_. */
 typedef struct {
     uint8_t kind;
-    uint8_t to;       /* for kinds DCC_RESET to DCC_CV_BIT_VERIFY: DCC_ALL, DCC_SHORT or DCC_LONG */
-    uint16_t address; /* the address, 0 with DCC_ALL; the board of ACCESSORY, the signal of SIGNAL */
-    bool forward;     /* SPEED28, SPEED128 */
-    uint8_t bits;     /* speed bits: SPEED28 0 to 31, which is 2 * SSSS + C of 01DCSSSS; SPEED128 0 to 127
-                         (dcc_loco.step has the speed step). Function bits: the lowest function in the lowest bit
-                         (group 0: F1 to F4, then F0) */
-    uint8_t group;    /* FUNCTIONS: the first function of the group: 5, 9, 13, 21, 29, 37, 45, 53 or 61, or
-                         0 for F1 to F4 and F0 */
-    uint8_t state;    /* STATE: the binary state, 0 for all of them */
-    bool on;          /* STATE, ACCESSORY */
+    uint8_t to;       /* RESET to CV_BIT_VERIFY: the kind of the address, DCC_ALL, DCC_SHORT or DCC_LONG */
+    uint16_t address; /* RESET to CV_BIT_VERIFY: the address, or 0. ACCESSORY: the board. SIGNAL: the signal */
+    bool forward;     /* SPEED28, SPEED128: the direction */
+    uint8_t bits;     /* SPEED28: the speed bits, 0 to 31, which are 2 * SSSS + C of 01DCSSSS. SPEED128: the speed bits,
+                         0 to 127. The comment on dcc_loco.step has the speed step of speed bits. FUNCTIONS: the
+                         function bits, with the lowest function in the lowest bit (group 0: F1 to F4, then F0) */
+    uint8_t group;    /* FUNCTIONS: the first function of the group, 5, 9, 13, 21, 29, 37, 45, 53 or 61; or 0 for F1 to
+                         F4 and F0 */
+    uint8_t state;    /* STATE: the number of the binary state, 0 for all binary states */
+    bool on;          /* STATE, ACCESSORY: true for on */
     DCC_FREE_BYTE
-    uint16_t cv;      /* CV_..: 1 to 1024 */
+    uint16_t cv;      /* CV_..: the number of the CV, 1 to 1024 */
     uint8_t value;    /* CV_WRITE, CV_VERIFY: the byte */
-    uint8_t place;    /* CV_BIT_..: the place of the bit, from the lowest */
-    bool one;         /* CV_BIT_..: the bit */
-    uint8_t output;   /* ACCESSORY: 0 to 7 */
-    uint8_t aspect;   /* SIGNAL */
+    uint8_t place;    /* CV_BIT_..: the place of the bit, 0 for the lowest bit */
+    bool one;         /* CV_BIT_..: the value of the bit */
+    uint8_t output;   /* ACCESSORY: the output, 0 to 7 */
+    uint8_t aspect;   /* SIGNAL: the aspect */
     DCC_FREE_BYTE
 } dcc_packet;
 
-/* Functions that take a frame return 1 or 2 and write nothing if the bytes are not a frame: L1 if there are not 3 to
- * 6 bytes, L2 if the error byte is wrong. Otherwise they return 0, unless their comment says more. */
+/* A function that takes a frame returns 1 (L1) if there are not 3 to 6 bytes, and 2 (L2) if the error byte is wrong.
+ * In these two cases the function writes nothing. Otherwise the function returns 0. If a function returns other
+ * values, its comment says so. */
 
-/* Reads the packet of a frame. */
+/* Writes the fields of the packet of a frame. */
 uint8_t dcc_read(const uint8_t *frame, uint64_t len, dcc_packet *packet);
 
 enum { DCC_LINE = 41, DCC_HALVES = 190, DCC_CVS = 1024 };
 
-/* Writes the packet line of a frame, followed by zeros: "loco s3 speed28 f 4" (docs/FORMATS.md). */
+/* Writes the packet line of a frame (docs/FORMATS.md), for example "loco s3 speed28 f 4", and then zeros. */
 uint8_t dcc_line(const uint8_t *frame, uint64_t len, char line[DCC_LINE]);
 
 /* Writes the frame of a packet line. If the line has an error, returns the number of its first error, 1 to 14 for
- * P1 to P14 (docs/FORMATS.md), and writes nothing. The length counts only the bytes of the line, as strlen does, and
- * no zero need follow them. If len also counts a zero or a line feed, this byte belongs to the last word, and the line
- * is refused: P10, or P11 if that word is a number. */
+ * P1 to P14 (docs/FORMATS.md), and writes nothing. The parameter len counts only the bytes of the line, as strlen does.
+ * The line need not end with a zero. If len also counts a zero or a line feed, this byte belongs to the last word. The
+ * line is then refused with P10, or with P11 if the last word is a number. */
 uint8_t dcc_frame_of_line(const char *line, uint64_t len, dcc_frame *frame);
 
-/* Writes the half-bits of a frame in microseconds: first a preamble of 14 to 40 ones (DCC_MAIN_TRACK,
- * DCC_PROGRAMMING_TRACK), then the frame, with 58 and 58 for a one, and 100 and 100 for a zero. Returns the number
- * of half-bits, 190 at most, and writes only these. Returns 0 and writes nothing if the bytes are not a frame or the
- * preamble is not 14 to 40. */
+/* Writes the half-bits of a preamble and of a frame in microseconds. The parameter preamble is the number of ones
+ * before the frame, 14 to 40 (DCC_MAIN_TRACK, DCC_PROGRAMMING_TRACK). The half-bits of a one are 58 and 58, and the
+ * half-bits of a zero are 100 and 100. Returns the number of half-bits, at most 190, and writes only this number of
+ * elements. Returns 0 and writes nothing if the bytes are not a frame or the preamble is not 14 to 40. */
 uint8_t dcc_halves(const uint8_t *frame, uint64_t len, uint8_t preamble, uint16_t halves[DCC_HALVES]);
 
 /* The timing of a station: the lengths of half-bits in microseconds, and the number of ones before a packet (NMRA
@@ -171,58 +179,62 @@ typedef struct {
 #define DCC_MAIN_TIMING {58, 100, 100, DCC_MAIN_TRACK}
 #define DCC_PROGRAMMING_TIMING {58, 100, 100, DCC_PROGRAMMING_TRACK}
 
-/* The half-bits of a packet that are left to send. A sender has 16 bytes; the array of dcc_halves has 380. Opaque: do
- * not read or write its fields. All zeros have no half-bit left, as in `static dcc_sender sender;`. */
+/* A sender, which has the half-bits of a packet that are left to send. A sender has 16 bytes, and the array of
+ * dcc_halves has 380 bytes. The struct is opaque: do not read or write its fields. If all bytes are zero, as in `static
+ * dcc_sender sender;`, no half-bit is left. */
 typedef struct {
     uint64_t kept[2];
 } dcc_sender;
 
-/* Begins to send a frame in a timing, and returns 0. Otherwise returns the first error and writes nothing: 6, 7 or 8
- * (H6, H7, H8) for the timing, then 1 or 2 (L1, L2) for the frame. */
+/* Begins to send a frame in a timing, and returns 0. If the timing or the frame has an error, returns the number of the
+ * first error and writes nothing. The errors of the timing come first: 6, 7 or 8 (H6, H7, H8). The errors of the frame
+ * are 1 and 2 (L1, L2). */
 uint8_t dcc_sender_start(dcc_sender *sender, const uint8_t *frame, uint64_t len, const dcc_timing *timing);
 
-/* Returns the next half-bit of the packet in microseconds, and counts it as sent. Returns 0 and writes nothing if no
- * half-bit is left. The function does not divide and copies no frame, so a timer interrupt may call it. */
+/* Returns the next half-bit of the packet in microseconds, and counts this half-bit as sent. Returns 0 and writes
+ * nothing if no half-bit is left. The function neither divides nor copies a frame, so a timer interrupt may call it. */
 uint16_t dcc_sender_half(dcc_sender *sender);
 
 /* ---- decoders ---- */
 
-/* The _apply, _hears and _cv functions return 13 (P13) and write nothing if no decoder can have such fields. */
+/* The _apply, _hears and _cv functions return 13 (P13) and write nothing if no decoder can have the fields of the
+ * struct. */
 
 /* A locomotive decoder. */
 typedef struct {
-    uint8_t address_kind;  /* the kind of its active address; 0 if it has no address */
-    uint8_t speed_mode;    /* 0 stopped, 1 stopped at once, else the number of steps: 14, 28 or 126 */
-    uint8_t step;          /* its step, from 1; 0 if it is stopped. The bits of a packet give the step: bits - 3 with
-                              28 steps, bits / 2 - 1 with 14 steps (SPEED28 if bit 1 of CV29 is 0), and bits - 1 with
-                              126 steps (SPEED128). If this is below 1, the packet stops the decoder */
+    uint8_t address_kind;  /* the kind of the active address; 0 if the decoder has no address */
+    uint8_t speed_mode;    /* 0 for stop, 1 for emergency stop, else the number of steps: 14, 28 or 126 */
+    uint8_t step;          /* the speed step, from 1; 0 if the decoder is stopped. SPEED128 sets the step to bits - 1.
+                              SPEED28 sets the step to bits - 3 with 28 steps, and to bits / 2 - 1 with 14 steps (bit 1
+                              of CV29 is 0). If this number is below 1, the packet stops the decoder */
     bool forward;
     uint16_t address;
     dcc_frame pending;     /* the CV write that takes effect if the decoder hears the same packet again */
     DCC_FREE_BYTE DCC_FREE_BYTE DCC_FREE_BYTE
-    uint64_t functions[2]; /* F n is bit n % 64 of functions[n / 64], 0 to 68 */
-    uint64_t states[2];    /* binary state n is bit n % 64 of states[n / 64], 1 to 127 */
+    uint64_t functions[2]; /* function F n, n from 0 to 68, is bit n % 64 of functions[n / 64] */
+    uint64_t states[2];    /* binary state n, n from 1 to 127, is bit n % 64 of states[n / 64] */
     uint8_t cvs[DCC_CVS];  /* CV1 is cvs[0] */
 } dcc_loco;
 
-/* Creates a locomotive decoder that is powered up with these CVs, which it copies. */
+/* Creates a locomotive decoder that is powered up with the given CVs. The function copies the CVs. */
 void dcc_loco_new(dcc_loco *loco, const uint8_t cvs[DCC_CVS]);
 
-/* Powers a locomotive decoder up, as dcc_loco_new does with the CVs in loco->cvs, which stay as they are. The other
- * fields may have any values before, so a program can write the CVs to loco->cvs and needs no second array. */
+/* Powers a locomotive decoder up with the CVs in loco->cvs, as dcc_loco_new does, and leaves these CVs unchanged. All
+ * other fields may have any values before the call. So a program can write the CVs to loco->cvs and needs no second
+ * array. */
 void dcc_loco_power_up(dcc_loco *loco);
 
-/* Applies the packet of a frame. A packet for other decoders changes nothing. */
+/* Applies the packet of a frame to the decoder. A packet for other decoders changes nothing. */
 uint8_t dcc_loco_apply(dcc_loco *loco, const uint8_t *frame, uint64_t len);
 
-/* Writes whether the packet of a frame is for this decoder, that is, for all locomotive decoders or for its address.
- * So a program can call its own functions only for packets of its decoder. Returns 13 if no decoder has such an
- * address; all other fields are ignored. */
+/* Writes true if the packet of a frame is for this decoder, that is, for its address or for all locomotive decoders.
+ * Otherwise writes false. So a program can call its own functions only for packets of its decoder. Returns 13 if no
+ * decoder can have the address in *loco. The function ignores all other fields. */
 uint8_t dcc_loco_hears(const dcc_loco *loco, const uint8_t *frame, uint64_t len, bool *heard);
 
 /* An accessory decoder. */
 typedef struct {
-    uint16_t number;    /* its board, 0 to 510 */
+    uint16_t number;    /* the number of the board, 0 to 510 */
     uint8_t outs;       /* bit n is output n */
     bool positions[4];  /* true if output 2n + 1 is the output of pair n that was turned on last */
     uint8_t aspects[4]; /* the aspects of its signals */
@@ -233,11 +245,12 @@ typedef struct {
  * nothing if the number is above 510. */
 uint8_t dcc_board_new(dcc_board *board, uint16_t number);
 
-/* Applies the packet of a frame, as dcc_loco_apply does. */
+/* Applies the packet of a frame to the decoder. A packet for other decoders changes nothing. */
 uint8_t dcc_board_apply(dcc_board *board, const uint8_t *frame, uint64_t len);
 
-/* Writes whether the packet of a frame is for this decoder, as dcc_loco_hears does. Packets for it name an output of
- * its board or of board 511, one of its four signals or signal 2047, or reset all decoders. */
+/* Writes true if the packet of a frame is for this decoder, and false otherwise. Packets for an accessory decoder name
+ * an output of its board or of board 511, one of its four signals, or signal 2047. A reset of all decoders is for every
+ * accessory decoder. Returns 13 if no decoder can have the number in *board. The function ignores all other fields. */
 uint8_t dcc_board_hears(const dcc_board *board, const uint8_t *frame, uint64_t len, bool *heard);
 
 /* A decoder on the programming track, in direct mode (NMRA S-9.2.3). */
@@ -247,31 +260,32 @@ typedef struct {
     uint8_t cvs[DCC_CVS];
 } dcc_service;
 
-/* Creates a decoder with these CVs, which it copies. It is not in service mode. */
+/* Creates a decoder with the given CVs that is not in service mode. The function copies the CVs. */
 void dcc_service_new(dcc_service *service, const uint8_t cvs[DCC_CVS]);
 
-/* Powers a decoder up, as dcc_service_new does with the CVs in service->cvs, which stay as they are. The other fields
- * may have any values before. */
+/* Powers a decoder up with the CVs in service->cvs, as dcc_service_new does, and leaves these CVs unchanged. All other
+ * fields may have any values before the call. */
 void dcc_service_power_up(dcc_service *service);
 
-/* Takes a frame, and writes whether the decoder acknowledges it. */
+/* Applies a frame to the decoder. Writes true if the decoder acknowledges the frame, and false otherwise. */
 uint8_t dcc_service_apply(dcc_service *service, const uint8_t *frame, uint64_t len, bool *acknowledged);
 
 /* ---- decoders whose CVs the program stores, for example in EEPROM ---- */
 
-/* These decoders have no CVs of their own, so they fit an ATmega328P. They obey as a dcc_loco or a dcc_service with the
- * stored CVs does. A program takes four steps for each frame:
+/* A dcc_small_loco and a dcc_small_service have no CVs of their own, so they fit an ATmega328P. A dcc_small_loco
+ * behaves as a dcc_loco with the stored CVs, and a dcc_small_service behaves as a dcc_service with the stored CVs. A
+ * program takes four steps for each frame:
  *
  * - The _cv function writes the number of the CV that the frame accesses, or 0.
- * - If there is such a CV, the program reads its value from its store.
- * - The _apply function gets this value and writes the new one.
- * - If the value changed, the program writes it to its store.
+ * - If the number is not 0, the program reads the value of this CV from its store.
+ * - The _apply function takes the value of this CV, and writes the new value of this CV.
+ * - If the value changed, the program writes the new value to its store.
  *
- * Between the two calls, the program does not change the decoder. */
+ * Between the calls of the _cv and the _apply function, the program does not change the decoder. */
 
 /* A locomotive decoder whose CVs the program stores. */
 typedef struct {
-    uint8_t address_kind;  /* these fields are those of a dcc_loco */
+    uint8_t address_kind;  /* the fields from address_kind to states are those of a dcc_loco */
     uint8_t speed_mode;
     uint8_t step;
     bool forward;
@@ -284,7 +298,8 @@ typedef struct {
     uint8_t unused[7];     /* no function reads or writes these bytes */
 } dcc_small_loco;
 
-/* Creates a locomotive decoder that is powered up with these values of its CVs. No other CV matters. */
+/* Creates a locomotive decoder that is powered up with the given values of CV1, CV17, CV18 and CV29. The values of all
+ * other CVs do not matter. */
 void dcc_small_loco_new(dcc_small_loco *loco, uint8_t cv1, uint8_t cv17, uint8_t cv18, uint8_t cv29);
 
 /* If dcc_small_loco_apply would execute a CV write for this frame, writes the number of the CV, 1 to 1024. Writes 0 for
@@ -292,12 +307,12 @@ void dcc_small_loco_new(dcc_small_loco *loco, uint8_t cv1, uint8_t cv17, uint8_t
 uint8_t dcc_small_loco_cv(const dcc_small_loco *loco, const uint8_t *frame, uint64_t len, uint16_t *cv);
 
 /* Applies the packet of a frame, as dcc_loco_apply does. If dcc_small_loco_cv writes the number of a CV for this
- * frame, *value must be the value of this CV. The function writes the new value of this CV to *value, and writes
- * whether the value changed. For all other frames *value does not matter and does not change. CV7 and CV8 never
- * change. */
+ * frame, *value must be the value of this CV. The function then writes the new value of this CV to *value. For all
+ * other frames *value does not matter and does not change. The function writes true to *changed if the value changed,
+ * and false otherwise. CV7 and CV8 never change. */
 uint8_t dcc_small_loco_apply(dcc_small_loco *loco, const uint8_t *frame, uint64_t len, uint8_t *value, bool *changed);
 
-/* Writes whether the packet of a frame is for this decoder, as dcc_loco_hears does. */
+/* Writes true if the packet of a frame is for this decoder, and false otherwise, as dcc_loco_hears does. */
 uint8_t dcc_small_loco_hears(const dcc_small_loco *loco, const uint8_t *frame, uint64_t len, bool *heard);
 
 /* A decoder on the programming track whose CVs the program stores. */
@@ -309,38 +324,41 @@ typedef struct {
 /* Creates a decoder that is not in service mode. */
 void dcc_small_service_new(dcc_small_service *service);
 
-/* Writes the number of the CV that dcc_small_service_apply accesses for this frame, 1 to 1024: that of a service packet
- * that takes effect. Writes 0 for all other frames. */
+/* If dcc_small_service_apply would execute a service packet for this frame, writes the number of the CV of this packet,
+ * 1 to 1024. Writes 0 for all other frames. */
 uint8_t dcc_small_service_cv(const dcc_small_service *service, const uint8_t *frame, uint64_t len, uint16_t *cv);
 
-/* Takes a frame, as dcc_service_apply does, and writes whether the decoder acknowledges it. If dcc_small_service_cv
- * writes the number of a CV for this frame, *value must be the value of this CV. The function writes the new value of
- * this CV to *value, and writes whether the value changed. For all other frames *value does not matter and does not
- * change. CV7 and CV8 never change. */
+/* Applies a frame to the decoder, as dcc_service_apply does. Writes true to *acknowledged if the decoder acknowledges
+ * the frame, and false otherwise. If dcc_small_service_cv writes the number of a CV for this frame, *value must be the
+ * value of this CV. The function then writes the new value of this CV to *value. For all other frames *value does not
+ * matter and does not change. The function writes true to *changed if the value changed, and false otherwise. CV7 and
+ * CV8 never change. */
 uint8_t dcc_small_service_apply(dcc_small_service *service, const uint8_t *frame, uint64_t len, uint8_t *value,
     bool *changed, bool *acknowledged);
 
 /* ---- reading a CV ---- */
 
-/* The reading of a CV by nine questions. The first eight ask if bit 0, 1, .. 7 of the CV is one. The ninth asks if the
- * CV has the value of these bits. */
+/* The reading of a CV by nine questions. The first eight questions ask if bit 0, 1, .. 7 of the CV is one. The ninth
+ * question asks if the CV has the value that these bits form. */
 typedef struct {
-    uint16_t cv;   /* 1 to 1024 */
+    uint16_t cv;   /* the number of the CV, 1 to 1024 */
     uint8_t known; /* the number of answers so far, 0 to 8. Bits 0 to known - 1 of the CV are known */
-    uint8_t value; /* the known bits */
+    uint8_t value; /* the known bits; all other bits are 0 */
 } dcc_reader;
 
 /* Begins to read a CV. Returns 6 (P6) and writes nothing if the CV is not 1 to 1024. */
 uint8_t dcc_reader_new(dcc_reader *reader, uint16_t cv);
 
-/* Writes the frame of the next question. To ask it, a station sends three resets (00 00 00) and then this frame five
- * times, each with a preamble of 20 ones (DCC_PROGRAMMING_TRACK). The answer is yes if the decoder acknowledges any of
- * the eight packets. Returns 13 and writes nothing if the fields are not those of a reading. */
+/* Writes the frame of the next question. To ask this question, a station sends three resets (00 00 00) and then the
+ * frame five times. Each of the eight packets has a preamble of 20 ones (DCC_PROGRAMMING_TRACK). The answer is yes if
+ * the decoder acknowledges any of the eight packets. Returns 13 and writes nothing if the fields are not those of a
+ * reading. */
 uint8_t dcc_reader_question(const dcc_reader *reader, dcc_frame *question);
 
 enum { DCC_MORE, DCC_VALUE, DCC_NO_ANSWER }; /* the state of a reading after an answer */
 
-/* Takes the answer to the question.
+/* Takes the answer to the question of dcc_reader_question. The parameter yes is true if the decoder acknowledged the
+ * question.
  *
  * - Returns DCC_MORE if there is a further question.
  * - Returns DCC_VALUE and writes the value if the ninth question was acknowledged.
@@ -353,16 +371,19 @@ uint8_t dcc_reader_answer(dcc_reader *reader, bool yes, uint8_t *value);
 
 /* ---- a command station ---- */
 
-/* A command station: commands that wait, and entries, which it sends again and again while no command waits. Opaque:
- * do not read or write its fields. Before its first dcc_station_new, a station must be all zeros, as a `static
- * dcc_station station;` is. A station of zeros accepts no command and sends idle packets. */
+/* A command station, which has waiting commands and entries. A station sends the entries again and again while no
+ * command waits. The struct is opaque: do not read or write its fields. Before its first dcc_station_new, a station
+ * must be all zeros, as in `static dcc_station station;`. A station of zeros accepts no command and sends idle
+ * packets. */
 typedef struct {
     uint8_t kept[1800];
 } dcc_station;
 
-/* Creates a station without commands. queue is the greatest number of waiting commands, 1 to 64, slots the greatest
- * number of entries, 1 to 128, repeats the number of copies of a command in a row, 1 to 8. Returns 1 (C1) and
- * writes nothing if a size is outside its range. */
+/* Creates a station without commands. Returns 1 (C1) and writes nothing if a parameter is outside its range:
+ *
+ * - queue, the greatest number of waiting commands, is 1 to 64.
+ * - slots, the greatest number of entries, is 1 to 128.
+ * - repeats, the number of copies of a command in a row, is 1 to 8. */
 uint8_t dcc_station_new(dcc_station *station, uint8_t queue, uint8_t slots, uint8_t repeats);
 
 /* Adds the command of a frame to the end of the queue. Returns 3 (C3) if a station does not send the packet: idle, a
@@ -370,8 +391,9 @@ uint8_t dcc_station_new(dcc_station *station, uint8_t queue, uint8_t slots, uint
  * command changes nothing. */
 uint8_t dcc_station_command(dcc_station *station, const uint8_t *frame, uint64_t len);
 
-/* Writes the frame to send next: a copy of the first waiting command. If no command waits, the first entry, which
- * goes to the end. If there is no entry either, idle. */
+/* Writes the frame to send next. If a command waits, this frame is a copy of the first waiting command. Otherwise the
+ * frame is the first entry, which moves to the end of the entries. If there is no entry either, the frame is an idle
+ * packet. */
 void dcc_station_next(dcc_station *station, dcc_frame *frame);
 
 /* Returns the number of waiting commands. */
@@ -380,7 +402,7 @@ uint8_t dcc_station_waiting(const dcc_station *station);
 /* Returns the number of entries. */
 uint8_t dcc_station_entries(const dcc_station *station);
 
-/* The compiler stops if bool or a struct does not have the size that the library expects. */
+/* The assertions stop the compiler if bool or a struct does not have the size that the library expects. */
 #ifdef __cplusplus
 #define DCC_ASSERT(condition) static_assert(condition, #condition)
 #elif defined __STDC_VERSION__ && __STDC_VERSION__ >= 201112L

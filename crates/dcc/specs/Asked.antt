@@ -15,7 +15,7 @@ use Rattle.dcc_tool.specs.declared.performing.Request.{Request}
 use Rattle.dcc_tool.specs.declared.performing.Request.TheVariants as request
 
 -- `given` is true if and only if the flag `id` was given, according to the text that clap stores
--- for it
+-- for this flag
 pub record IsFlag (id : Text) (rows : List Row) (given : Bool) : Type 0 where
   pub absent : one_of id rows ≡ None → given ≡ false
   pub set : one_of id rows ≡ Some (codes "true") → given ≡ true
@@ -31,9 +31,9 @@ pub record IsSize (id : Text) (rows : List Row) (other : ℕ) (size : ℕ) : Typ
   pub given : (text : Text) → one_of id rows ≡ Some text → IsNumber 8 text
       → size ≡ digits_value 10 (without_leading_plus text)
 
--- `rows` request no station for `None`, otherwise a station with the sizes `queue`, `slots` and
--- `repeats`. A size that was not given is 16 for the queue, 32 for the slots, and 2 for the
--- repeats.
+-- the arguments in `rows` request the given station: no station for `None`, otherwise a station
+-- with the sizes `queue`, `slots` and `repeats`. A size that was not given is 16 for the queue, 32
+-- for the slots, and 2 for the repeats.
 abbrev pub IsStation : List Row → Option (ℕ × ℕ × ℕ) → Type 0
 IsStation rows None = IsFlag (codes "station") rows false
 IsStation rows (Some (queue, slots, repeats)) =
@@ -56,8 +56,8 @@ abbrev pub comparison : Option Text → Result Request ToolFault
 comparison None = Err (fault.Usage usage.Words)
 comparison (Some word) = compared_for (who_named word)
 
--- the request to read a CV, on an empty track if `empty` is true; the error U1 if there is no such
--- CV
+-- the request to read a CV, on an empty track if `empty` is true. The result is the error U1 if the
+-- number of the CV is out of range.
 abbrev pub reading_of : Result CvNumber PacketFault → Bool → Result Request ToolFault
 reading_of (Ok cv) empty = Ok (request.ReadCv cv empty)
 reading_of (Err refused) empty = Err (fault.Usage usage.Words)

@@ -34,8 +34,8 @@ where
     }
 }
 
-/// Returns the arguments. The first argument is `dcc` instead of the name of the program, which can
-/// be any path.
+/// Returns the arguments. The first argument is `dcc` in place of the name of the program, since
+/// this name can be any path.
 ///
 /// Errors: U1 if an argument is not UTF-8, U6 if an allocation fails.
 fn words_of<T: Env + Eprint + AllocGlobal>(rt: &T) -> Result<Vec<String>, ToolFault> {

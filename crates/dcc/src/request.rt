@@ -107,7 +107,8 @@ fn comparison_of(matches: &ArgMatches) -> Result<Request, ToolFault>
     }
 }
 
-/// Returns the request to read the CV that `--cv` gives. clap accepts only numbers from 1 to 1024.
+/// Returns the request to read the CV whose number is the value of `--cv`. clap accepts only
+/// numbers from 1 to 1024.
 fn reading_of(matches: &ArgMatches) -> Result<Request, ToolFault>
     ensures { ReadsCvOf (rows_of (found_of matches.now)) result }
 {

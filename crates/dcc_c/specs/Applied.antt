@@ -7,9 +7,9 @@ use Rattle.dcc_regs.specs.Heard.{hears}
 use Rattle.dcc_regs.specs.Result.{RegisterMap, step}
 use Rattle.dcc_regs.specs.Setting.{set_from}
 
--- a decoder has applied `packet`: its identity is unchanged, and its registers are those after this
--- packet. Each register that `packet` does not set is unchanged. If the decoder does not hear
--- `packet`, all its registers are unchanged.
+-- a decoder has applied `packet`: its identity is unchanged, and its registers changed from
+-- `before` to `after`. Each register that `packet` does not set is unchanged. If the decoder does
+-- not hear `packet`, all its registers are unchanged.
 pub record HasApplied (packet : Packet) (who : Who) (before : RegisterMap) (who' : Who) (after : RegisterMap) : Type 0
   where
     pub same_who : who' ≡ who

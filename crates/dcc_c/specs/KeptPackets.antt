@@ -15,7 +15,7 @@ abbrev pub kept_bytes : Packet → List ℕ
 kept_bytes Idle = []
 kept_bytes packet = spelling packet
 
--- a packet that `bytes` store, and the proof of this
+-- a packet that `bytes` store, together with a proof that `bytes` store it
 abbrev pub KeptBy : List ℕ → Type 0
 KeptBy bytes = (packet : Packet) × (kept_bytes packet ≡ bytes)
 

@@ -6,8 +6,9 @@ use Rattle.dcc_wire.specs.declared.seen.Seen.TheVariants.{Nothing, Packet, Refus
 use Rattle.dcc_c.specs.declared.outcome.DccOutcome.{DccOutcome}
 use Rattle.dcc_c.specs.Frames.{bytes_of, frame_numbers}
 
--- the outcome in the C structure `o`. If the field `refusal` is 0, it is a packet. If the field is
--- 1 to 5, it is a refusal with the error H1 to H5. No function writes another number.
+-- the outcome in the C structure `o`. If the field `refusal` is 0, the outcome is a packet. If the
+-- field is 1 to 5, the outcome is a refusal with the error H1 to H5. No function writes another
+-- number.
 abbrev pub outcome_seen : DccOutcome → Seen
 outcome_seen o =
     if o.refusal == 0 then Packet (bytes_of o.frame)
@@ -23,8 +24,8 @@ outcome_seen o =
 abbrev pub seen_at_answer : ℕ → DccOutcome → Seen
 seen_at_answer answer o = if answer == 0 then Nothing else outcome_seen o
 
--- the C structure of an outcome at the half-bit `at`. It has the bytes of a packet or of the error
--- H5, and no bytes for any other error.
+-- the C structure of an outcome at the half-bit `at`. The struct has the bytes of a packet or of a
+-- refusal H5, and no bytes for any other refusal.
 abbrev pub outcome_numbers : ℕ → Seen → DccOutcome
 outcome_numbers at Nothing = record { at = at; refusal = 0; frame = frame_numbers [] }
 outcome_numbers at (Packet bytes) = record { at = at; refusal = 0; frame = frame_numbers bytes }

@@ -31,8 +31,9 @@ abbrev pub cv_or_0 : Option CvNumber → ℕ
 cv_or_0 None = 0
 cv_or_0 (Some cv) = cv.number
 
--- A locomotive decoder in state `before` applies `packet`. The caller hands in `value`, the value of
--- the CV that the decoder accesses, and gets back `value'`. The structure is then `loco`.
+-- A locomotive decoder in state `before` applies `packet`. The caller passes `value`, the value of
+-- the CV that the decoder accesses, and gets the new value `value'` of this CV. The C structure of
+-- the decoder after the call is `loco`.
 pub record AppliesToValue (packet : Packet) (before : LocoState) (value : ℕ) (loco : DccSmallLoco) (value' : ℕ) : Type 0
   where
     pub after : LocoState

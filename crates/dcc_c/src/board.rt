@@ -33,7 +33,8 @@ pub struct DccBoard {
 }
 
 /// Initialises an accessory decoder with all outputs off, all positions false and all aspects 0.
-/// Returns 0, or 3 (P3) if `number` is not 0 to 510. If the result is not 0, nothing is written.
+/// Returns 0 on success, and 3 (P3) if `number` is not 0 to 510. If the result is not 0, nothing is
+/// written.
 #[unsafe(no_mangle)]
 pub extern "C" fn dcc_board_new(board: &mut DccBoard, number: u16) -> u8
     ensures made { nat_le number 510 ≡ true
@@ -62,9 +63,9 @@ fn new(number: u16) -> Result<BoardState, PacketFault>
     }
 }
 
-/// Applies the packet of the frame with these bytes. The decoder ignores a packet that it does not
-/// hear. Returns 0, or 1 (L1) or 2 (L2) if the bytes are no frame, or 13 (P13) if no decoder has
-/// these fields. If the result is not 0, nothing changes.
+/// Applies the packet of the frame `frame`. The decoder ignores a packet that it does not hear.
+/// Returns 0 on success, 1 (L1) or 2 (L2) if `frame` is no frame, and 13 (P13) if no decoder has
+/// the fields of `board`. If the result is not 0, nothing changes.
 #[unsafe(no_mangle)]
 pub extern "C" fn dcc_board_apply(board: &mut DccBoard, frame: &[u8]) -> u8
     ensures no_frame { frame_answer frame.now ≢ 0 → result ≡ frame_answer frame.now }
@@ -90,9 +91,9 @@ pub extern "C" fn dcc_board_apply(board: &mut DccBoard, frame: &[u8]) -> u8
     }
 }
 
-/// Writes true to `heard` if the decoder hears the packet of the frame with these bytes, otherwise
-/// false. Returns 0, or 1 (L1) or 2 (L2) if the bytes are no frame. Returns 13 (P13) if the address
-/// of the decoder is not 0 to 510. If the result is not 0, nothing is written.
+/// Writes true to `heard` if the decoder hears the packet of the frame `frame`, otherwise false.
+/// Returns 0 on success, and 1 (L1) or 2 (L2) if `frame` is no frame. Returns 13 (P13) if the
+/// address of the decoder is not 0 to 510. If the result is not 0, nothing is written.
 #[unsafe(no_mangle)]
 pub extern "C" fn dcc_board_hears(board: &DccBoard, frame: &[u8], heard: &mut bool) -> u8
     ensures no_frame { frame_answer frame.now ≢ 0 → result ≡ frame_answer frame.now }
@@ -115,7 +116,7 @@ pub extern "C" fn dcc_board_hears(board: &DccBoard, frame: &[u8], heard: &mut bo
     }
 }
 
-/// Returns the address of the decoder with these fields.
+/// Returns the address of the decoder with the fields of `board`.
 ///
 /// Errors: P13 if the address is not 0 to 510.
 fn own_board(board: &DccBoard) -> Result<Board, PacketFault>
@@ -128,8 +129,8 @@ fn own_board(board: &DccBoard) -> Result<Board, PacketFault>
     Board::new(board.number)
 }
 
-/// Returns the state of a decoder with these fields after a packet. Returns `None` if no decoder
-/// has these fields.
+/// Returns the state of the decoder with the fields of `board` after the packet `packet`. Returns
+/// `None` if no decoder has the fields of `board`.
 fn after(board: &DccBoard, packet: &Packet) -> Option<BoardState>
     ensures decoder { IfSome result
         (λ _. (before : BoardState) × (is_single before ≡ true) × (board.now ≡ board_numbers before)) }
@@ -140,8 +141,8 @@ fn after(board: &DccBoard, packet: &Packet) -> Option<BoardState>
     heard(&state_of(board)?, packet)
 }
 
-/// Returns the state of a decoder after a packet. Returns `None` if no decoder can be in the state
-/// `before`.
+/// Returns the state of a decoder after `packet`, if its state before is `before`. Returns `None`
+/// if no decoder can be in the state `before`.
 fn heard(before: &BoardState, packet: &Packet) -> Option<BoardState>
     ensures possible { IfSome result (λ _. is_single before.now ≡ true) }
     ensures applies { is_single before.now ≡ true →
@@ -157,7 +158,7 @@ fn heard(before: &BoardState, packet: &Packet) -> Option<BoardState>
     }
 }
 
-/// Returns the C struct with the values of a state.
+/// Returns the C struct with the values of the state `state`.
 fn numbers(state: &BoardState) -> DccBoard
     ensures { result ≡ board_numbers state.now }
 {
@@ -169,7 +170,8 @@ fn numbers(state: &BoardState) -> DccBoard
     }
 }
 
-/// Returns the state with the values of a C struct. Returns `None` if the address is above 511.
+/// Returns the state with the values of the C struct `board`. Returns `None` if its address is
+/// above 511.
 fn state_of(board: &DccBoard) -> Option<BoardState>
     ensures found { (state : BoardState) → board.now ≡ board_numbers state → result ≡ Some state }
     ensures numbers { IfSome result (λ state. board.now ≡ board_numbers state) }

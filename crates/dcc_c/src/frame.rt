@@ -20,7 +20,7 @@ impl DccFrame {
     ghost use Rattle.std.specs.Prelude.{◌≡◌, ◌≤◌, ◌↔◌, IsTrue, length};
     ghost use Rattle.dcc_c.specs.Frames.{bytes_of, frame_numbers};
 
-    /// Creates the struct with these bytes. The list must have at most six bytes.
+    /// Creates the struct of the bytes `bytes`. There must be at most six bytes.
     pub fn of(bytes: &[u8]) -> DccFrame
         requires { length bytes.now ≤ 6 }
         ensures { result ≡ frame_numbers bytes.now }
@@ -33,7 +33,7 @@ impl DccFrame {
         }
     }
 
-    /// Returns true if all fields are equal.
+    /// Returns true if all fields of both structs are equal.
     // compares byte by byte, since Rust compares arrays by functions for lists of any length, which
     // take three times as long
     pub fn is(&self, other: &DccFrame) -> bool
@@ -57,7 +57,7 @@ impl DccFrame {
     }
 }
 
-/// Returns the frame of these bytes, or the number of the error: 1 for L1, 2 for L2.
+/// Returns the frame that consists of `bytes`, or the number of the error: 1 for L1, 2 for L2.
 // not inlined, so that the archive contains the code once for all functions
 #[inline(never)]
 pub(crate) fn frame_of(bytes: &[u8]) -> Result<Frame, u8>
@@ -68,8 +68,8 @@ pub(crate) fn frame_of(bytes: &[u8]) -> Result<Frame, u8>
     Frame::of(bytes).map_err(|fault| fault.number())
 }
 
-/// Returns Ok if these bytes form a frame, without a copy of the bytes. The errors of `check_frame`
-/// are those of `frame_of`.
+/// Returns Ok if `bytes` form a frame. The function does not copy the bytes, and has the errors of
+/// `frame_of`.
 pub(crate) fn check_frame(bytes: &[u8]) -> Result<(), u8>
     ensures { MatchResult result
         (λ _. IsFrame bytes.now × (frame_answer bytes.now ≡ 0))

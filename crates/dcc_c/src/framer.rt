@@ -43,8 +43,8 @@ pub extern "C" fn dcc_push(framer: &mut KeptFramer, us: u16, outcome: &mut DccOu
     push_apart(framer, us, outcome)
 }
 
-/// Takes a half-bit with an outcome. The function is separate from the code that runs for each
-/// half-bit.
+/// Takes a half-bit that ends an outcome. This function is separate from the code that runs for
+/// each half-bit.
 #[inline(never)]
 fn push_apart(framer: &mut KeptFramer, us: u16, outcome: &mut DccOutcome) -> u8
     requires { (halves : List ℕ) → StandsFor (kept_rest framer.old) halves → seen (halves ++ us ∷ []) ≢ seen halves }
@@ -63,8 +63,8 @@ fn push_apart(framer: &mut KeptFramer, us: u16, outcome: &mut DccOutcome) -> u8
     1
 }
 
-/// Takes a run of `n` half-bits of `us` microseconds for a stored framer. The function has the
-/// contract of `Framer::push_run`.
+/// Takes a run of `n` half-bits of `us` microseconds with the framer in `kept`. The function has
+/// the contract of `Framer::push_run`.
 fn push_run(kept: &mut KeptFramer, us: u16, n: u32) -> RunSeen
     ensures history { (halves : List ℕ) × StandsFor (kept_rest kept.old) halves }
     ensures stands { (halves : List ℕ) → StandsFor (kept_rest kept.old) halves

@@ -10,11 +10,11 @@ ghost use Rattle.dcc_c.specs.Halves.{IsNominal, is_sendable_by_numbers};
 use crate::frame::check_frame;
 use dcc_wire::{Halves, Timing};
 
-/// Writes the half-bits of the frame with these bytes after `preamble` ones, 14 to 40. Each
+/// Writes the half-bits of the frame `frame` after `preamble` ones, 14 to 40, to `halves`. Each
 /// half-bit of a one takes 58 microseconds, and each half-bit of a zero takes 100 microseconds.
 /// Returns the number of half-bits, at most 190. The elements of `halves` after the last half-bit
-/// do not change. Returns 0, and writes nothing, if the bytes are no frame or the number of ones is
-/// not 14 to 40.
+/// do not change. Returns 0, and writes nothing, if `frame` is no frame or `preamble` is not 14 to
+/// 40.
 #[unsafe(no_mangle)]
 pub extern "C" fn dcc_halves(frame: &[u8], preamble: u8, halves: &mut [u16; 190]) -> u8
     ensures sent { is_sendable_by_numbers frame.now preamble ≡ true →
@@ -30,8 +30,8 @@ pub extern "C" fn dcc_halves(frame: &[u8], preamble: u8, halves: &mut [u16; 190]
     }
 }
 
-/// Returns the nominal timing with this number of ones. Returns `None` if the number is not 14 to
-/// 40.
+/// Returns the nominal timing with `preamble` ones in the preamble. Returns `None` if `preamble` is
+/// not 14 to 40.
 #[tactic(auto, using(crate::proofs::HalvesLemmas::sent_with))]
 fn nominal(preamble: u8) -> Option<Timing>
     ensures timing { IfSome result (IsNominal preamble) }

@@ -13,9 +13,9 @@ ghost use Rattle.dcc_c.specs.Lines.{line_answer};
 use crate::frame::{DccFrame, frame_of};
 use dcc_packet::Packet;
 
-/// Writes the packet line of the frame with these bytes, followed by zeros. The line has at most 40
-/// bytes, so a zero ends the line. Returns 0, or 1 (L1) or 2 (L2) if the bytes are no frame. If the
-/// result is not 0, nothing is written.
+/// Writes the packet line of the frame `frame` to `line`, followed by zeros. The line has at most
+/// 40 bytes, so a zero ends the line. Returns 0 on success, and 1 (L1) or 2 (L2) if `frame` is no
+/// frame. If the result is not 0, nothing is written.
 #[unsafe(no_mangle)]
 pub extern "C" fn dcc_line(frame: &[u8], line: &mut [u8; 41]) -> u8
     ensures answer { result ≡ frame_answer frame.now }
@@ -42,8 +42,8 @@ fn put_line(packet: &Packet, line: &mut [u8; 41])
     *line = padded;
 }
 
-/// Writes the frame of a packet line. Returns 0, or the number of the first error of the line, 1 to
-/// 14 for P1 to P14. If the result is not 0, nothing is written.
+/// Writes the frame of the packet line `line`. Returns 0 on success, otherwise the number of the
+/// first error of the line, 1 to 14 for P1 to P14. If the result is not 0, nothing is written.
 #[unsafe(no_mangle)]
 pub extern "C" fn dcc_frame_of_line(line: &[u8], frame: &mut DccFrame) -> u8
     ensures answer { (read : Result Packet PacketFault) × Says (words line.now) read × (result ≡ line_answer read)

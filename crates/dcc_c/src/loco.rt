@@ -23,8 +23,8 @@ use dcc_packet::{Packet, PacketFault};
 use dcc_regs::{LocoRegisters, loco_hears_frame};
 use dcc_wire::Frame;
 
-/// Initialises a locomotive decoder that is powered up with these CVs. The first byte of `cvs` is
-/// CV1. The decoder is stopped and forward, and all its functions and binary states are off.
+/// Initialises a locomotive decoder that is powered up with the CVs `cvs`. The first byte of `cvs`
+/// is CV1. The decoder is stopped and forward, and all its functions and binary states are off.
 #[unsafe(no_mangle)]
 pub extern "C" fn dcc_loco_new(loco: &mut DccLoco, cvs: &[u8; 1024])
     ensures { (state : LocoState) × (is_state state ≡ true) × (loco.new ≡ loco_numbers state)
@@ -46,9 +46,9 @@ pub extern "C" fn dcc_loco_power_up(loco: &mut DccLoco)
     put(&mut loco.registers, &registers, DccFrame::of(&[]));
 }
 
-/// Applies the packet of the frame with these bytes. The decoder ignores a packet that it does not
-/// hear. Returns 0, or 1 (L1) or 2 (L2) if the bytes are no frame, or 13 (P13) if no decoder has
-/// these fields. If the result is not 0, nothing changes.
+/// Applies the packet of the frame `frame`. The decoder ignores a packet that it does not hear.
+/// Returns 0 on success, 1 (L1) or 2 (L2) if `frame` is no frame, and 13 (P13) if no decoder has
+/// the fields of `loco`. If the result is not 0, nothing changes.
 #[unsafe(no_mangle)]
 pub extern "C" fn dcc_loco_apply(loco: &mut DccLoco, frame: &[u8]) -> u8
     ensures no_frame { frame_answer frame.now ≢ 0 → result ≡ frame_answer frame.now }
@@ -73,10 +73,10 @@ pub extern "C" fn dcc_loco_apply(loco: &mut DccLoco, frame: &[u8]) -> u8
     }
 }
 
-/// Writes true to `heard` if the decoder hears the packet of the frame with these bytes, otherwise
-/// false. Returns 0, or 1 (L1) or 2 (L2) if the bytes are no frame, or 13 (P13) if no decoder has
-/// the address in the fields. If the result is not 0, nothing is written. The function reads only
-/// the address fields of `loco`.
+/// Writes true to `heard` if the decoder hears the packet of the frame `frame`, otherwise false.
+/// Returns 0 on success, 1 (L1) or 2 (L2) if `frame` is no frame, and 13 (P13) if no decoder has
+/// the address in `loco`. If the result is not 0, nothing is written. The function reads only the
+/// address fields of `loco`.
 #[unsafe(no_mangle)]
 pub extern "C" fn dcc_loco_hears(loco: &DccLoco, frame: &[u8], heard: &mut bool) -> u8
     ensures no_frame { frame_answer frame.now ≢ 0 → result ≡ frame_answer frame.now }
@@ -90,8 +90,8 @@ pub extern "C" fn dcc_loco_hears(loco: &DccLoco, frame: &[u8], heard: &mut bool)
     registers_hear(&loco.registers, frame, heard)
 }
 
-/// Writes true to `heard` if a decoder with these registers hears the packet of the frame with these
-/// bytes, otherwise false. Returns the numbers that `dcc_loco_hears` returns.
+/// Writes true to `heard` if a decoder with these registers hears the packet of the frame `frame`,
+/// otherwise false. Returns the same numbers as `dcc_loco_hears`.
 pub(crate) fn registers_hear(registers: &DccLocoRegisters, frame: &[u8], heard: &mut bool) -> u8
     ensures no_frame { frame_answer frame.now ≢ 0 → result ≡ frame_answer frame.now }
     ensures tells { frame_answer frame.now ≡ 0 → (own : Option Address) → HasAddress registers.now own →
@@ -114,8 +114,8 @@ pub(crate) fn registers_hear(registers: &DccLocoRegisters, frame: &[u8], heard: 
     }
 }
 
-/// Applies the packet of a frame to the decoder with these fields. Returns false, and changes
-/// nothing, if no decoder has these fields.
+/// Applies the packet of a frame to the decoder with the fields of `loco`. Returns false, and
+/// changes nothing, if no decoder has the fields of `loco`.
 fn apply(loco: &mut DccLoco, frame: &Frame) -> bool
     ensures decoder { result ≡ true → (before : LocoState) × (is_state before ≡ true)
         × (loco.old ≡ loco_numbers before) }

@@ -48,8 +48,8 @@ pub struct DccLocoRegisters {
     pub states: [u64; 2],
 }
 
-/// The state of a locomotive decoder as a C struct. In `dcc.h` the fields of `registers` are fields
-/// of the struct itself, at the same places.
+/// The state of a locomotive decoder as a C struct. In `dcc.h` the struct has the fields of
+/// `registers` as its own fields, at the same places.
 #[repr(C)]
 #[derive(Clone, Copy, Drop)]
 pub struct DccLoco {
@@ -62,7 +62,7 @@ pub struct DccLoco {
 /// The constant 2^64.
 const WORD: u128 = 1 << 64;
 
-/// Writes the registers and the frame of the pending write to the fields.
+/// Writes the registers and the frame of the pending write to the fields of the C struct.
 // inlined, as `take_up` and `read` are, since a call of each takes 16 instructions more for a packet
 #[inline(always)]
 pub(crate) fn put(numbers: &mut DccLocoRegisters, registers: &LocoRegisters, pending: DccFrame)
@@ -151,8 +151,8 @@ pub(crate) fn no_registers() -> LocoRegisters
     }
 }
 
-/// Reads the registers from the fields. Returns false if no decoder has these fields. If the result
-/// is false, the registers can have any value.
+/// Reads the registers from the fields. Returns false if no decoder has the fields of `numbers`. If
+/// the result is false, the registers can have any value.
 // writes the registers in place, since each copy would take space on the stack
 #[inline(always)]
 pub(crate) fn take_up(numbers: &DccLocoRegisters, registers: &mut LocoRegisters) -> bool
@@ -249,8 +249,8 @@ fn bits_of(words: &[u64; 2]) -> u128
     u128::from(words[1]) * WORD + u128::from(words[0])
 }
 
-/// Reads the pending packet from its frame. Returns false if the bytes are no frame. If the result
-/// is false, the packet can have any value.
+/// Reads the pending packet from its frame. Returns false if the bytes of the struct are no frame.
+/// If the result is false, the packet can have any value.
 // not inlined, so that the pending packet takes no stack while another packet is applied
 #[inline(never)]
 fn read_pending(numbers: &DccFrame, pending: &mut Option<Packet>) -> bool

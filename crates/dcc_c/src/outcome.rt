@@ -55,8 +55,8 @@ fn refused(at: u32, refusal: u8) -> DccOutcome
     }
 }
 
-/// Returns the C struct of an outcome with these bytes. The parameter `padded` has the bytes of
-/// `bytes`, followed by zeros.
+/// Returns the C struct of an outcome with the bytes `bytes`. The parameter `padded` has these
+/// bytes, followed by zeros.
 #[inline(always)]
 fn numbers(at: u32, refusal: u8, bytes: &[u8], padded: [u8; 6]) -> DccOutcome
     requires few { length bytes.now ≤ 6 }

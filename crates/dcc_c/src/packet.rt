@@ -50,8 +50,8 @@ pub struct DccPacket {
     pub aspect: u8,
 }
 
-/// Writes the packet of the frame with these bytes as a C struct. Returns 0, or 1 (L1) or 2 (L2) if
-/// the bytes are no frame. If the result is not 0, nothing is written.
+/// Writes the packet of the frame `frame` to `packet`. Returns 0 on success, and 1 (L1) or 2 (L2)
+/// if `frame` is no frame. If the result is not 0, nothing is written.
 #[unsafe(no_mangle)]
 pub extern "C" fn dcc_read(frame: &[u8], packet: &mut DccPacket) -> u8
     ensures answer { result ≡ frame_answer frame.now }
@@ -67,7 +67,7 @@ pub extern "C" fn dcc_read(frame: &[u8], packet: &mut DccPacket) -> u8
     }
 }
 
-/// Writes the packet of the frame with these bytes as a C struct.
+/// Writes the packet of the frame `frame` to `packet`.
 #[inline(always)]
 fn read(frame: &[u8], packet: &mut DccPacket)
     requires { IsFrame frame.now }
@@ -168,7 +168,7 @@ fn put_cv(kind: u8, cv: &CvNumber, packet: &mut DccPacket)
     packet.cv = cv.number();
 }
 
-/// Returns a packet of this kind, whose other fields are 0 or false.
+/// Returns the C struct of a packet of the kind `kind`, whose other fields are 0 or false.
 #[inline(always)]
 fn of_kind(kind: u8) -> DccPacket
     ensures { result ≡ of_kind kind }

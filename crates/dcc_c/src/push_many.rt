@@ -10,7 +10,7 @@ use crate::outcome::{DccOutcome, outcome_of};
 use dcc_wire::KeptFramer;
 
 /// Takes half-bits of an array, as calls of `dcc_push` do, up to the first half-bit that ends an
-/// outcome. The function writes the number of half-bits that it took to `taken`.
+/// outcome. The function writes to `taken` how many half-bits it took.
 ///
 /// If an outcome ends, the function writes the outcome and returns 1. If no outcome ends, the
 /// function takes all half-bits and returns 0.

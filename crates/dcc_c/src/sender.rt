@@ -11,9 +11,9 @@ use crate::frame::check_frame;
 use crate::timing::{DccTiming, timing_of};
 use dcc_wire::Halves;
 
-/// Begins to send the frame with these bytes in this timing. Returns 0, or 6 (H6), 7 (H7) or 8 (H8)
-/// if a station cannot send in this timing. Returns 1 (L1) or 2 (L2) if the timing is possible, but
-/// the bytes are no frame. If the result is not 0, nothing is written.
+/// Begins to send the frame `frame` with the timing `timing`. Returns 0 on success, and 6 (H6), 7
+/// (H7) or 8 (H8) if the timing has an error. Returns 1 (L1) or 2 (L2) if the timing has no error,
+/// but `frame` is no frame. If the result is not 0, nothing is written.
 #[unsafe(no_mangle)]
 pub extern "C" fn dcc_sender_start(sender: &mut Halves, frame: &[u8], timing: &DccTiming) -> u8
     ensures answer { result ≡ sending_answer frame.now timing.now }
@@ -30,7 +30,8 @@ pub extern "C" fn dcc_sender_start(sender: &mut Halves, frame: &[u8], timing: &D
     }
 }
 
-/// Returns all half-bits of the frame with these bytes, or the number of the error.
+/// Returns all half-bits of the frame `frame` with the timing `timing`, or the number of the first
+/// error.
 fn started(frame: &[u8], timing: &DccTiming) -> Result<Halves, u8>
     ensures { MatchResult result
         (λ s. (sending_answer frame.now timing.now ≡ 0)
@@ -43,7 +44,7 @@ fn started(frame: &[u8], timing: &DccTiming) -> Result<Halves, u8>
 }
 
 /// Removes the next half-bit of the packet and returns its duration in microseconds. Returns 0, and
-/// changes nothing, if no half-bit is left. A sender whose bytes are zeros has no half-bit left.
+/// changes nothing, if no half-bit is left. A sender whose bytes are all zero has no half-bit left.
 #[unsafe(no_mangle)]
 pub extern "C" fn dcc_sender_half(sender: &mut Halves) -> u16
     ensures half { (us : ℕ) (later : List ℕ) → HasLeft sender.old (us ∷ later)

@@ -22,8 +22,8 @@ pub struct DccSmallService {
     pub pending: DccFrame,
 }
 
-/// The state of a decoder on the programming track as a C struct. In `dcc.h` the fields of `progress`
-/// are fields of the struct itself, at the same places.
+/// The state of a decoder on the programming track as a C struct. In `dcc.h` the struct has the
+/// fields of `progress` as its own fields, at the same places.
 #[repr(C)]
 #[derive(Clone, Copy, Drop)]
 pub struct DccService {
@@ -33,8 +33,8 @@ pub struct DccService {
     pub cvs: [u8; 1024],
 }
 
-/// Initialises a decoder that is not in service mode, with these CVs. The first byte of `cvs` is
-/// CV1.
+/// Initialises a decoder that is not in service mode, with the CVs `cvs`. The first byte of `cvs`
+/// is CV1.
 #[unsafe(no_mangle)]
 pub extern "C" fn dcc_service_new(service: &mut DccService, cvs: &[u8; 1024])
     ensures { service.new ≡ service_numbers (record { in_service = false; pending = None; cvs = cvs.now }) }
@@ -54,9 +54,10 @@ pub extern "C" fn dcc_service_power_up(service: &mut DccService)
     put(&mut service.progress, &ServiceProgress::new());
 }
 
-/// Applies the frame with these bytes. The function writes true to `acknowledged` if the decoder
-/// acknowledges the frame, otherwise false. Returns 0, or 1 (L1) or 2 (L2) if the bytes are no
-/// frame, or 13 (P13) if no decoder has these fields. If the result is not 0, nothing changes.
+/// Applies the frame `frame`. The function writes true to `acknowledged` if the decoder
+/// acknowledges the frame, otherwise false. Returns 0 on success, 1 (L1) or 2 (L2) if `frame` is no
+/// frame, and 13 (P13) if no decoder has the fields of `service`. If the result is not 0, nothing
+/// changes.
 #[unsafe(no_mangle)]
 pub extern "C" fn dcc_service_apply(
     service: &mut DccService,
@@ -85,7 +86,7 @@ pub extern "C" fn dcc_service_apply(
     }
 }
 
-/// Writes the state of a decoder without its CVs to the fields.
+/// Writes the state of a decoder without its CVs to the fields of `service`.
 pub(crate) fn put(service: &mut DccSmallService, progress: &ServiceProgress)
     ensures { (cvs : List ℕ) → service.new ≡ small_service_numbers (state_with_cvs progress.now cvs) }
 {
@@ -102,8 +103,8 @@ fn pending_bytes(pending: &Option<ServicePacket>) -> DccFrame
     }
 }
 
-/// Returns the state of the decoder with these fields, without the CVs. Returns `None` if no
-/// decoder has these fields.
+/// Returns the state of the decoder with the fields of `service`, without the CVs. Returns `None`
+/// if no decoder has the fields of `service`.
 pub(crate) fn progress_of(service: &DccSmallService) -> Option<ServiceProgress>
     ensures found { (state : ServiceState) → service.now ≡ small_service_numbers state
         → result ≡ Some (record { in_service = state.in_service; pending = state.pending }) }

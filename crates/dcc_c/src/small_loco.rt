@@ -25,9 +25,9 @@ use dcc_packet::{CvNumber, Packet, PacketFault};
 use dcc_regs::LocoRegisters;
 use dcc_wire::Frame;
 
-/// The state of a locomotive decoder without its CVs as a C struct, for a program that stores the CVs
-/// itself, for example in EEPROM. In `dcc.h` the fields of `registers` are fields of the struct
-/// itself, at the same places.
+/// The state of a locomotive decoder without its CVs as a C struct, for a program that stores the
+/// CVs itself, for example in EEPROM. In `dcc.h` the struct has the fields of `registers` as its
+/// own fields, at the same places.
 #[repr(C)]
 #[derive(Clone, Copy, Drop)]
 pub struct DccSmallLoco {
@@ -37,8 +37,8 @@ pub struct DccSmallLoco {
     pub cv29: u8,
 }
 
-/// Initialises a locomotive decoder that is powered up with these values of CV1, CV17, CV18 and CV29.
-/// The decoder is stopped and forward, and all its functions and binary states are off.
+/// Initialises a locomotive decoder that is powered up with the given values of CV1, CV17, CV18 and
+/// CV29. The decoder is stopped and forward, and all its functions and binary states are off.
 #[unsafe(no_mangle)]
 pub extern "C" fn dcc_small_loco_new(loco: &mut DccSmallLoco, cv1: u8, cv17: u8, cv18: u8, cv29: u8)
     ensures { (cvs : List ℕ) → IsCvs cvs → HaveAddress (cv_in cvs) cv1 cv17 cv18 cv29
@@ -50,9 +50,10 @@ pub extern "C" fn dcc_small_loco_new(loco: &mut DccSmallLoco, cv1: u8, cv17: u8,
     loco.cv29 = cv29;
 }
 
-/// Writes to `cv` the number of the CV that `dcc_small_loco_apply` accesses for the frame with these
-/// bytes, or 0 if it accesses no CV. Returns 0, or 1 (L1) or 2 (L2) if the bytes are no frame, or 13
-/// (P13) if no decoder has these fields. If the result is not 0, nothing is written.
+/// Writes to `cv` the number of the CV that `dcc_small_loco_apply` accesses for the frame `frame`,
+/// or 0 if that function accesses no CV. Returns 0 on success, 1 (L1) or 2 (L2) if `frame` is no
+/// frame, and 13 (P13) if no decoder has the fields of `loco`. If the result is not 0, nothing is
+/// written.
 #[unsafe(no_mangle)]
 pub extern "C" fn dcc_small_loco_cv(loco: &DccSmallLoco, frame: &[u8], cv: &mut u16) -> u8
     ensures no_frame { frame_answer frame.now ≢ 0 → result ≡ frame_answer frame.now }
@@ -74,11 +75,12 @@ pub extern "C" fn dcc_small_loco_cv(loco: &DccSmallLoco, frame: &[u8], cv: &mut 
     }
 }
 
-/// Applies the packet of the frame with these bytes. If `dcc_small_loco_cv` writes the number of a CV
-/// for this frame, `value` must be the value of this CV. The function writes the new value of the CV
-/// to `value`, and true to `changed` if it differs from the value before, otherwise false. The
-/// decoder ignores a packet that it does not hear. Returns 0, or 1 (L1) or 2 (L2) if the bytes are no
-/// frame, or 13 (P13) if no decoder has these fields. If the result is not 0, nothing changes.
+/// Applies the packet of the frame `frame`. If `dcc_small_loco_cv` writes the number of a CV for
+/// this frame, `value` must be the value of this CV. The function writes the new value of the CV to
+/// `value`. The function writes true to `changed` if the new value differs from the value before,
+/// otherwise false. The decoder ignores a packet that it does not hear. Returns 0 on success, 1
+/// (L1) or 2 (L2) if `frame` is no frame, and 13 (P13) if no decoder has the fields of `loco`. If
+/// the result is not 0, nothing changes.
 #[unsafe(no_mangle)]
 pub extern "C" fn dcc_small_loco_apply(
     loco: &mut DccSmallLoco,
@@ -112,10 +114,10 @@ pub extern "C" fn dcc_small_loco_apply(
     }
 }
 
-/// Writes true to `heard` if the decoder hears the packet of the frame with these bytes, otherwise
-/// false. Returns 0, or 1 (L1) or 2 (L2) if the bytes are no frame, or 13 (P13) if no decoder has
-/// the address in the fields. If the result is not 0, nothing is written. The function reads only
-/// the address fields of `loco`.
+/// Writes true to `heard` if the decoder hears the packet of the frame `frame`, otherwise false.
+/// Returns 0 on success, 1 (L1) or 2 (L2) if `frame` is no frame, and 13 (P13) if no decoder has
+/// the address in `loco`. If the result is not 0, nothing is written. The function reads only the
+/// address fields of `loco`.
 #[unsafe(no_mangle)]
 pub extern "C" fn dcc_small_loco_hears(loco: &DccSmallLoco, frame: &[u8], heard: &mut bool) -> u8
     ensures no_frame { frame_answer frame.now ≢ 0 → result ≡ frame_answer frame.now }
@@ -129,8 +131,8 @@ pub extern "C" fn dcc_small_loco_hears(loco: &DccSmallLoco, frame: &[u8], heard:
     registers_hear(&loco.registers, frame, heard)
 }
 
-/// Reads the registers from the fields. Returns false if no decoder has these fields. If the result
-/// is false, the registers can have any value.
+/// Reads the registers from the fields. Returns false if no decoder has the fields of `loco`. If
+/// the result is false, the registers can have any value.
 // not inlined, so that the archive contains the code once for both functions
 #[inline(never)]
 fn take_up_small(loco: &DccSmallLoco, registers: &mut LocoRegisters) -> bool
@@ -148,7 +150,7 @@ fn byte_is_small(value: u8)
 {}
 
 /// Returns the number of the CV that the decoder accesses for the frame, or 0 for no CV. Returns
-/// `None` if no decoder has these fields.
+/// `None` if no decoder has the fields of `loco`.
 fn accessed_cv(loco: &DccSmallLoco, frame: &Frame) -> Option<u16>
     ensures tells { (state : LocoState) → IsSmallLoco loco.now state →
         (packet : Packet) × (spelling packet ≡ frame.now) × (result ≡ Some (cv_or_0 (loco_cv state packet))) }
@@ -171,8 +173,8 @@ pub(crate) fn number_of(cv: &Option<CvNumber>) -> u16
     }
 }
 
-/// Applies the packet of a frame to the decoder with these fields. Returns false, and changes
-/// nothing, if no decoder has these fields.
+/// Applies the packet of a frame to the decoder with the fields of `loco`. Returns false, and
+/// changes nothing, if no decoder has the fields of `loco`.
 fn apply(loco: &mut DccSmallLoco, value: &mut u8, frame: &Frame) -> bool
     ensures decoder { result ≡ true → (before : LocoState) × IsSmallLoco loco.old before }
     ensures applies { (before : LocoState) → IsSmallLoco loco.old before →

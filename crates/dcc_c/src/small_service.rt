@@ -24,9 +24,10 @@ pub extern "C" fn dcc_small_service_new(service: &mut DccSmallService)
     put(service, &ServiceProgress::new());
 }
 
-/// Writes to `cv` the number of the CV that `dcc_small_service_apply` accesses for the frame with
-/// these bytes, or 0 if it accesses no CV. Returns 0, or 1 (L1) or 2 (L2) if the bytes are no frame,
-/// or 13 (P13) if no decoder has these fields. If the result is not 0, nothing is written.
+/// Writes to `cv` the number of the CV that `dcc_small_service_apply` accesses for the frame
+/// `frame`, or 0 if that function accesses no CV. Returns 0 on success, 1 (L1) or 2 (L2) if `frame`
+/// is no frame, and 13 (P13) if no decoder has the fields of `service`. If the result is not 0,
+/// nothing is written.
 #[unsafe(no_mangle)]
 pub extern "C" fn dcc_small_service_cv(service: &DccSmallService, frame: &[u8], cv: &mut u16) -> u8
     ensures no_frame { frame_answer frame.now ≢ 0 → result ≡ frame_answer frame.now }
@@ -48,12 +49,12 @@ pub extern "C" fn dcc_small_service_cv(service: &DccSmallService, frame: &[u8], 
     }
 }
 
-/// Applies the frame with these bytes. If `dcc_small_service_cv` writes the number of a CV for this
-/// frame, `value` must be the value of this CV. The function writes the new value of the CV to
-/// `value`, and true to `changed` if it differs from the value before, otherwise false. It writes true
-/// to `acknowledged` if the decoder acknowledges the frame, otherwise false. Returns 0, or 1 (L1) or 2
-/// (L2) if the bytes are no frame, or 13 (P13) if no decoder has these fields. If the result is not 0,
-/// nothing changes.
+/// Applies the frame `frame`. If `dcc_small_service_cv` writes the number of a CV for this frame,
+/// `value` must be the value of this CV. The function writes the new value of the CV to `value`.
+/// The function writes true to `changed` if the new value differs from the value before, otherwise
+/// false. The function writes true to `acknowledged` if the decoder acknowledges the frame,
+/// otherwise false. Returns 0 on success, 1 (L1) or 2 (L2) if `frame` is no frame, and 13 (P13) if
+/// no decoder has the fields of `service`. If the result is not 0, nothing changes.
 #[unsafe(no_mangle)]
 pub extern "C" fn dcc_small_service_apply(
     service: &mut DccSmallService,

@@ -19,8 +19,8 @@ use dcc_station::{PacketRing, StationFault, are_within_limits, hand_out, take_co
 /// capacity of the queue, 1 to 64. The parameter `slots` is the capacity of the entries, 1 to 128.
 /// The parameter `repeats` is the number of copies of each command, 1 to 8.
 ///
-/// Returns 0, or 1 (C1) if a parameter is out of its limits. If the result is not 0, nothing is
-/// written.
+/// Returns 0 on success, and 1 (C1) if a parameter is out of its limits. If the result is not 0,
+/// nothing is written.
 #[unsafe(no_mangle)]
 pub extern "C" fn dcc_station_new(station: &mut DccStation, queue: u8, slots: u8, repeats: u8) -> u8
     ensures limit { (result ≡ 1) ↔ (is_within_limits queue slots repeats ≡ false) }
@@ -60,11 +60,12 @@ fn set_sizes(station: &mut DccStation, queue: u8, slots: u8, repeats: u8)
     station.repeats = repeats;
 }
 
-/// Appends the command of the frame with these bytes to the queue. A station does not send an idle
-/// packet, a frame in no row of the table, or a broadcast CV access.
+/// Appends the command of the frame `frame` to the queue. A station does not send an idle packet, a
+/// frame that is in no row of the table of packets, or a broadcast CV access.
 ///
-/// Returns 0, or 1 (L1) or 2 (L2) if the bytes are no frame. Returns 3 (C3) if a station does not
-/// send the packet, or 4 (C4) if the queue is full. If the result is not 0, nothing changes.
+/// Returns 0 on success, and 1 (L1) or 2 (L2) if `frame` is no frame. Returns 3 (C3) if a station
+/// does not send the packet, or 4 (C4) if the queue is full. If the result is not 0, nothing
+/// changes.
 #[unsafe(no_mangle)]
 pub extern "C" fn dcc_station_command(station: &mut DccStation, frame: &[u8]) -> u8
     ensures no_frame { frame_answer frame.now ≢ 0 → result ≡ frame_answer frame.now }
@@ -88,7 +89,7 @@ pub extern "C" fn dcc_station_command(station: &mut DccStation, frame: &[u8]) ->
     }
 }
 
-/// Appends a command to the queue. Returns 0, or the number of the error.
+/// Appends a command to the queue. Returns 0 on success, otherwise the number of the error.
 fn accept(station: &mut DccStation, packet: Packet) -> u8
     ensures ok { result ≡ 0 → sending_of station.new ≡ with_command (sending_of station.old) packet }
     ensures not_sendable { (result ≡ 3) ↔ (commands.is_sendable packet ≡ false) }

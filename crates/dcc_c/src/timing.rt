@@ -21,7 +21,8 @@ pub struct DccTiming {
     pub preamble: u8,
 }
 
-/// Returns the timing with these fields, or the number of the first error, 6 to 8 for H6 to H8.
+/// Returns the timing with the fields of `timing`, or the number of its first error, 6 to 8 for H6
+/// to H8.
 pub(crate) fn timing_of(timing: &DccTiming) -> Result<Timing, u8>
     ensures { MatchResult result
         (λ made. (timing.now ≡ timing_numbers made) × (timing_answer timing.now ≡ 0))

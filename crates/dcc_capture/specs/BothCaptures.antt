@@ -1,4 +1,5 @@
--- The two captures of an input. The line between them has the word `---` and no other word.
+-- The two captures of an input. The line between the two captures has the word `---` and no other
+-- word.
 use Rattle.std.specs.Prelude.{ℕ, ◌+◌, ◌-◌, ◌==◌, ◌&&◌, not, nat_le, ◌∷◌, ◌++◌, List, [], Bool, false, Option, None}
 use Rattle.std.specs.Prelude.{Some, replicate, if◌then◌else◌}
 use Rattle.dcc_io.specs.declared.fault.KeptFault.{KeptFault}
@@ -34,9 +35,9 @@ abbrev pub has_more_words : ℕ → List PlacedWord → Bool
 has_more_words line [] = false
 has_more_words line (word ∷ words) = word.line == line
 
--- both captures of an input after a word `---` at the beginning of line `line`: the first one has
--- no half-bit, and the second one has the half-bits of `words`. If another word is on line `line`,
--- the error is U2.
+-- both captures of an input after a word `---` at the beginning of line `line`. The first capture
+-- has no half-bit, and the second capture has the half-bits of `words`. If another word is on line
+-- `line`, the error is U2.
 abbrev pub behind_mark : ℕ → ℕ → List PlacedWord → Option KeptFault → Both
 behind_mark line most words last =
     if has_more_words line words then fault_alone (Number line) else only_second (halves_of_words most words last)
@@ -57,17 +58,16 @@ spelled_first most line (Some run) rest = counted_first most run rest
 
 -- Both captures of a list of words, with the limit `most` of half-bits. The word before the list is
 -- on line `before`, or `before` is 0 if there is no such word. `last` is the error after the list,
--- or `None` if the input ends there. If no line `---` follows the first capture, the error is P10
--- on line `end`.
+-- or `None` if the input ends there. If the line `---` is missing, the error is P10 on line `end`.
 abbrev pub both_of : ℕ → ℕ → ℕ → List PlacedWord → Option KeptFault → Both
 both_of before most end [] last = fault_alone (fault_at_end end last)
 both_of before most end (word ∷ words) last =
     if is_mark word.bytes && not (word.line == before) then behind_mark word.line most words last
     else spelled_first most word.line (run_of word.bytes) (λ left. both_of word.line left end words last)
 
--- the type of a function that gives both captures of an input. Its arguments are the number of the
--- line after the last line, the bytes that are still to be read, and the error after them, or
--- `None` if the input ends there.
+-- the type of a function that gives both captures of an input. The first argument is the number of
+-- the line after the last line. The second argument is the bytes that are still to be read. The
+-- third argument is the error after these bytes, or `None` if the input ends there.
 abbrev pub Said : Type 0
 Said = ℕ → List ℕ → Option KeptFault → Both
 
@@ -76,6 +76,7 @@ Said = ℕ → List ℕ → Option KeptFault → Both
 abbrev pub both_from : ℕ → InputState → Said
 both_from before input end bytes last = both_of before input.halves end (ended_words input.place bytes) last
 
--- both captures that `said` gives for the bytes of `text` that the limit of `input` allows
+-- both captures that the function `said` gives for the allowed bytes of `text`, as many as the
+-- limit of `input`
 abbrev pub in_limit : Said → InputState → List ℕ → Both
 in_limit said input text = within_limit (said (all_lines input text + 1)) input text

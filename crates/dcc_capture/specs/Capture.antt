@@ -11,14 +11,14 @@ use Rattle.dcc_io.specs.PassedWords.{Passed}
 use Rattle.dcc_io.specs.Items.{Items, Grammar, in_text, before_failure, items_behind, only_fault, Gave, StopsAt}
 use Rattle.dcc_io.specs.Words.{PlacedWord, ended_words, run_of}
 
--- the half-bits of `run`, and then those that `rest` gives for the remaining limit. If `run` has
--- more half-bits than the limit `most`, the result is the error U7.
+-- the half-bits of `run`, and then the half-bits that `rest` gives for the remaining limit. If
+-- `run` has more half-bits than the limit `most`, the result is the error U7.
 abbrev pub run_within : ℕ → Run → (ℕ → Items ℕ) → Items ℕ
 run_within most run rest =
     if nat_le run.n most then items_behind (replicate run.n run.us) (rest (most - run.n)) else only_fault (Some TooMuch)
 
--- the half-bits of the run of a word, and then those that `rest` gives for the remaining limit. If
--- the word is no run, the result is the error U2 of line `line`.
+-- the half-bits of the run of a word, and then the half-bits that `rest` gives for the remaining
+-- limit. If the word is no run, the result is the error U2 of line `line`.
 abbrev pub behind_word : ℕ → ℕ → Option Run → (ℕ → Items ℕ) → Items ℕ
 behind_word most line None rest = only_fault (Some (Number line))
 behind_word most line (Some run) rest = run_within most run rest
@@ -42,7 +42,7 @@ abbrev pub capture_before_failure : InputState → List ℕ → Items ℕ
 capture_before_failure input used = before_failure captures input used
 
 -- between the states `old` and `new`, the input read the half-bits `halves` without an error, and
--- they were subtracted from the limit
+-- their number was subtracted from the limit
 pub record GaveHalves (old : InputState) (halves : List ℕ) (new : InputState) : Type 0 where
   pub items : Gave captures old halves new
   pub left : new.halves + length halves ≡ old.halves
@@ -67,7 +67,7 @@ pub record RunsOver (old new : InputState) : Type 0 where
   pub next : NextRunsOver mid new
 
 -- the input has read the lines that `LinesAt` gives for an error of a capture. If a run exceeds the
--- limit of half-bits, it has instead read the lines up to this run.
+-- limit of half-bits, the input has read the lines up to this run.
 abbrev pub CaptureLinesAt : InputState → KeptFault → InputState → Type 0
 CaptureLinesAt old (Line line fault) new = ⊥
 CaptureLinesAt old TooMuch new = LinesAt old TooMuch new ⊎ RunsOver old new

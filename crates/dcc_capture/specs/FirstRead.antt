@@ -12,30 +12,31 @@ use Rattle.dcc_io.specs.LineEnd.{IsBehindLine}
 use Rattle.dcc_capture.specs.Capture.{NextRunsOver}
 use Rattle.dcc_capture.specs.BothCaptures.{Said, fault_alone, in_front, behind_mark, both_from, in_limit}
 
--- for any bytes that follow `used`, both captures of `input` are those that `said` gives for these
--- bytes
+-- for any bytes that follow `used`, the function `said` of the following bytes gives both captures
+-- of `input`
 abbrev pub SaysBehind : ℕ → InputState → Said → List ℕ → Type 0
 SaysBehind before input said used = (end : ℕ) (more : List ℕ) (last : Option KeptFault)
     → both_from before input end (used ++ more) last ≡ said end more last
 
--- the input read the bytes of `text` before `rest`, and `said` gives both captures for the bytes
--- after them
+-- the input read the bytes of `text` before `rest`, and the function `said` of the following bytes
+-- gives both captures
 abbrev pub LeadsIn : ℕ → InputState → InputState → Said → List ℕ → List ℕ → Type 0
 LeadsIn before old new said text rest = Uses (SaysBehind before old said) old new text rest
 
--- between the states `old` and `new`, the input was read without an error, and `said` gives both
--- captures for the bytes after that
+-- between the states `old` and `new`, the input was read without an error, and the function `said`
+-- of the following bytes gives both captures
 abbrev pub LeadsTo : ℕ → InputState → InputState → Said → Type 0
 LeadsTo before old new said = Took (SaysBehind before old said) old new
 
--- both captures, of which the input has read the half-bits `halves`: the first one begins with
--- `halves`, and the captures of the following bytes follow. The word before these bytes is on line
--- `before`.
+-- both captures of an input that has read the half-bits `halves`. The first capture begins with
+-- `halves`, and the following bytes contain the rest of both captures. The word before these bytes
+-- is on line `before`.
 abbrev pub first_so_far : List ℕ → ℕ → InputState → Said
 first_so_far halves before input end more last = in_front halves (both_from before input end more last)
 
--- both captures, of which the input has read the first one and the word `---` at the beginning of
--- line `line`: the first one consists of `halves`, and the second one is in the following bytes
+-- both captures of an input that has read the first capture and the word `---` at the beginning of
+-- line `line`. The first capture consists of `halves`, and the following bytes contain the second
+-- capture.
 abbrev pub first_is : List ℕ → ℕ → InputState → Said
 first_is halves line input end more last =
     in_front halves (behind_mark line input.halves (ended_words input.place more) last)
@@ -62,8 +63,8 @@ pub record FirstRunsOver (before : ℕ) (old new : InputState) : Type 0 where
   pub leads : LeadsTo before old mid (first_so_far halves line mid)
   pub next : NextRunsOver mid new
 
--- the input has read the lines up to an error of the first capture, as `LinesAt` gives them. If the
--- line `---` is missing, these are all lines. If a run exceeds the limit, these are the lines up to
+-- the input has read the lines that `LinesAt` gives for an error of the first capture. If the line
+-- `---` is missing, it has read all lines. If a run exceeds the limit, it has read the lines up to
 -- this run.
 abbrev pub FirstLinesAt : ℕ → InputState → KeptFault → InputState → Type 0
 FirstLinesAt before old (Line line fault) new = IsAtEnd new.text × UsesAllLines old new

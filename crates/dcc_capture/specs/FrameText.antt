@@ -5,7 +5,7 @@ use Rattle.dcc_packet.specs.declared.packet.Packet.{Packet}
 use Rattle.dcc_packet.specs.Spelling.{spelling}
 use Rattle.dcc_packet.specs.Written.{written_line}
 
--- `text` is the text of `frame`. If `words` is true, this is the packet line of its packet,
+-- `text` is the text of `frame`. If `words` is true, the text is the packet line of the frame,
 -- otherwise the hexadecimal digits of its bytes.
 abbrev pub IsFrameText : Bool → List ℕ → List ℕ → Type 0
 IsFrameText false frame text = text ≡ encode_lower frame

@@ -15,8 +15,8 @@ use Rattle.dcc_capture.specs.Capture.{AnswersRun}
 use Rattle.dcc_capture.specs.Listing.{AreLines}
 
 -- if the result is Ok, the bytes `held` and the lines of `items` were written, except for their
--- suffix `left`, which is buffered. If it is an error, a write failed or wrote no byte, and a
--- prefix of these bytes was written.
+-- suffix `left`, which is buffered. If the result is an error, a write failed or wrote no byte, and
+-- a prefix of these bytes was written.
 abbrev pub HoldsLines : {A : Type 0} → (ℕ → A → List ℕ → Type 0) → List (ℕ × A) → WriterState → List ℕ
     → Result (Unit {0}) Failed → List ℕ → WriterState → Type 0
 HoldsLines IsLineOf items before held result left after =
@@ -31,7 +31,8 @@ WritesRest before held answer result after =
     ⊎ ((result ≡ Err Write) × AppendsFront before after held × HasRisen before.failures after.failures)
 
 -- if the result is Ok, the buffered bytes `held` were written except for their suffix `left`, and
--- the next run was read. If it is an error, a write failed or wrote no byte, and nothing was read.
+-- the next run was read. If the result is an error, a write failed or wrote no byte, and nothing
+-- was read.
 abbrev pub ReadsRun : InputState → WriterState → List ℕ → Result (Result (Option Run) KeptFault) Failed → InputState
     → List ℕ → WriterState → Type 0
 ReadsRun old before held (Ok answer) new left after =

@@ -28,17 +28,17 @@ pub record WritesFrontOfLines {A : Type 0} (IsLineOf : ℕ → A → List ℕ �
   pub lists : AreLines IsLineOf shown text
   pub written : AppendsFront before after text
 
--- after a failed write: `fact` holds for the half-bits of the capture up to the error that the
--- input stores, or for all half-bits if it stores no error
+-- after a failed write, `fact` holds for the half-bits of the capture up to the error that the
+-- input stores. If the input stores no error, `fact` holds for all half-bits.
 abbrev pub StopsWriting : InputState → Option KeptFault → InputState → (List ℕ → Type 0) → Type 0
 StopsWriting old (Some fault) new fact = ReadsUpTo captures old (Some fault) new fact × CaptureLinesAt old fault new
 StopsWriting old None new fact =
     IfSome old.text (λ text. fact (capture_in old text).said) × (new.failures ≡ old.failures)
 
--- An operation has written a line for each item of a capture. A list of half-bits has the items
--- `items`. If the result is Ok, the lines of the whole capture were written. After an error of the
--- input, the lines of the half-bits before the error were written. After a failed write, a prefix of
--- these lines was written.
+-- An operation has written a line for each item of a capture. The function `items` gives the items
+-- of a list of half-bits. If the result is Ok, the lines of the whole capture were written. After
+-- an error of the input, the lines of the half-bits before the error were written. After a failed
+-- write, a prefix of these lines was written.
 abbrev pub WritesLinesOfCapture : {A : Type 0} → (ℕ → A → List ℕ → Type 0) → (List ℕ → List (ℕ × A)) → InputState
     → WriterState → Result (Unit {0}) ToolFault → InputState → WriterState → Type 0
 WritesLinesOfCapture IsLineOf items old before result new after =

@@ -15,8 +15,9 @@ use dcc_io::{Input, KeptFault, Run, RunWord, Source};
 use dcc_packet::PacketFault;
 
 /// Returns the next run of the first of two captures and its line. Returns `None` after the line
-/// `---`, which ends the first capture and is read to its end. The parameter `before` is the line
-/// of the previous word, or 0. If the function returns an error, `input` stores this error.
+/// `---`, which ends the first capture. The function then has read this line to its end. The
+/// parameter `before` is the line of the previous word, or 0. If the function returns an error,
+/// `input` stores this error.
 pub fn next_of_first<R: Source>(
     input: &mut Input<R>,
     before: u64,
@@ -87,14 +88,14 @@ fn run_or_mark<R: Source>(
     }
 }
 
-/// Returns true if the word is `---` and the first word of its line.
+/// Returns true if `word` is `---` and is the first word of its line.
 fn begins_with_mark(word: &RunWord, line: u64, before: u64) -> bool
     ensures { (bytes : List ℕ) → Spells word.now bytes → result ≡ (is_mark bytes && not (line == before)) }
 {
     word.is_mark() && line != before
 }
 
-/// Returns the run that a word on the line `line` gives, with this line.
+/// Returns the run that a word means, together with its line `line`.
 fn count_word<R: Source>(
     input: &mut Input<R>,
     line: u64,
@@ -112,8 +113,8 @@ fn count_word<R: Source>(
     }
 }
 
-/// Reads to the end of the line that begins with `---`. A further word on this line is the error
-/// U2.
+/// Reads to the end of the line that begins with `---`. If a further word is on this line, the
+/// error is U2.
 fn end_mark<R: Source>(input: &mut Input<R>, line: u64) -> Result<Option<(u64, Run)>, KeptFault>
     requires { input.old.fault ≡ None }
     ensures { EndsMark input.old line result input.new }

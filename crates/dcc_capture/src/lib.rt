@@ -1,5 +1,5 @@
-//! Captures: functions that read the runs of a capture or of the first of two captures in one
-//! input, and the listing of a capture.
+//! Functions that read the runs of a capture, or of the first of two captures in one input, and
+//! functions that write the listing of a capture.
 #![tactic(auto)]
 
 mod first_capture;

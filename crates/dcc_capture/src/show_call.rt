@@ -17,15 +17,15 @@ use dcc_wire::{Framer, Seen};
 /// Writes a line for each outcome of a capture. The line begins with the number of the last
 /// half-bit of the outcome, counted from 1.
 ///
-/// The line of a packet has the bytes in hex, `84 036261`, or with `words` the packet line, `84
-/// loco s3 speed28 f 4`. The line of a refusal is `31 refused H1` to `refused H4`, or `84 refused
-/// H5 036260` with the bytes (NMRA S-9.2, RCN-211). The function writes a complete line before it
-/// reads more input.
+/// The line of a packet has the bytes in hex, for example `84 036261`. If `words` is true, it has
+/// the packet line, for example `84 loco s3 speed28 f 4`. The line of a refusal has its error H1 to
+/// H5, for example `31 refused H1`. The error H5 is followed by the bytes, as in `84 refused H5
+/// 036260` (NMRA S-9.2, RCN-211). The function writes a complete line before it reads more input.
 ///
 /// Errors: U2 at a word that is no run. U4 if a read fails. U7 if the input exceeds a limit. U5 if
 /// a write fails. After U2, U4 or U7 the listing of the capture before the error was written, and
-/// `input` stores the error. After U5 a prefix of the listing was written. `input` also stores an
-/// error that was found before the write failed.
+/// `input` stores the error. After U5 a prefix of the listing was written. If an error of the
+/// capture was found before the write failed, `input` stores this error.
 pub fn show<R: Source, W: Sink>(
     input: &mut Input<R>,
     writer: &mut W,
@@ -79,7 +79,7 @@ fn list<R: Source, W: Sink>(
     }
 }
 
-/// Appends a line to the buffer if an outcome ends with half-bit `half`.
+/// Appends a line to the buffer if an outcome ends with the half-bit with the number `half`.
 #[inline(always)]
 #[tactic(auto, unfolding(dcc_wire::specs::Framing::report_at))]
 fn hold_seen<W: Sink>(
@@ -100,7 +100,8 @@ fn hold_seen<W: Sink>(
     }
 }
 
-/// Appends the line of the outcome that ends with half-bit `half` to the buffer.
+/// Appends the line of the outcome that ends with the half-bit with the number `half` to the
+/// buffer.
 #[inline(never)]
 fn hold_outcome<W: Sink>(
     held: &mut HeldLines,

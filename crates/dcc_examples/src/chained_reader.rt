@@ -4,7 +4,7 @@ ghost use Rattle.std.specs.Prelude.{◌≡◌, ◌≤◌, ◌<◌, ◌++◌, [],
 
 use dcc_tool::{Failed, Source};
 
-/// A reader of two texts in memory, which it reads one after the other.
+/// A reader of two texts in memory. It reads one text after the other.
 #[derive(Drop)]
 pub struct ChainedReader<'a> {
     pub first: &'a [u8],

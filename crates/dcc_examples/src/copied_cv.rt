@@ -10,8 +10,8 @@ use dcc_packet::CvNumber;
 use dcc_service::ServicePacket;
 
 /// Reads a CV of the first decoder, writes its value to the second decoder, and reads the CV of the
-/// second decoder. Returns true if both decoders then have the same value. The result is always
-/// true if the CV is writable.
+/// second decoder. Returns true if the CV then has the same value in both decoders. The result is
+/// always true if the CV is writable.
 pub fn copy_cv<F: Track, T: Track>(from: &mut F, to: &mut T, cv: CvNumber) -> bool
     // The value was written to the second decoder.
     ensures writes { T.cvs to.new ≡ written (T.cvs to.old) cv (cv_in (F.cvs from.old) cv.number) }

@@ -1,5 +1,5 @@
 //! The loop of a decoder: a framer finds the packets in half-bits, a locomotive decoder applies
-//! these packets, and a listener is notified of them.
+//! these packets, and a listener is notified of these packets.
 
 ghost use Rattle.std.specs.Prelude.{List};
 ghost use Rattle.dcc_regs.specs.Cvs.{cv_in};
@@ -36,7 +36,7 @@ pub fn hear_track<D: Decoder, N: Notify>(durations: &[u16], loco: &mut D, listen
     }
 }
 
-/// Creates a locomotive decoder with these CVs, which hears a track. The cab of the locomotive
+/// Creates a locomotive decoder with the CVs `cvs`, which hears a track. The cab of the locomotive
 /// prints the notifications. Returns the decoder.
 pub fn run<R: Print>(rt: &R, cvs: &[u8; 1024], durations: &[u16]) -> PackedLoco
     ensures { HasHeardHalves durations.now (start_who (cv_in cvs.now)) (start_map (cv_in cvs.now))

@@ -11,7 +11,8 @@ use crate::counted_decoder::CountedDecoder;
 use dcc_order::hear_two;
 use dcc_regs::{Decoder, LocoDecoder, PackedLoco};
 
-/// Creates two decoders with these CVs, and lets each decoder hear its track. Returns the decoders.
+/// Creates two decoders with the CVs `cvs`, and lets each decoder hear its track. Returns the
+/// decoders.
 pub fn hear_alike(
     cvs: &[u8; 1024],
     pieces: &[&[u16]],

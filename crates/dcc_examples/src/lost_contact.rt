@@ -1,5 +1,5 @@
-//! A locomotive that loses contact with the rails for a moment: it misses the packet that is sent
-//! then, and at most the next one.
+//! A locomotive that loses contact with the rails for a moment. The locomotive misses the packet
+//! that is sent at this moment, and at most the next packet.
 
 ghost use Rattle.std.specs.Prelude.{◌≡◌, ◌≤◌, ◌+◌, ◌∷◌, ◌++◌, ℕ, List, length, take, drop, IfOk};
 ghost use Rattle.dcc_wire.specs.Framing.{seen};
@@ -10,9 +10,9 @@ use dcc_wire::laws;
 use std::alloc::Global;
 use std::io;
 
-/// Returns the half-bits of a track without those from number `from` up to, but not including,
-/// number `to`. If they are half-bits of the first packet on the track, a framer sees each packet
-/// after the second one at its last half-bit.
+/// Returns the half-bits of a track without the half-bits with the numbers `from` to `to - 1`. If
+/// the missing half-bits belong to the first packet on the track, a framer sees each packet after
+/// the second packet at its last half-bit.
 pub fn with_gap(alloc: Global, track: &[u16], from: usize, to: usize) -> io::Result<Vec<u16>>
     requires { (from ≤ to) × (to ≤ length track.now) }
     ensures { IfOk result (λ heard. (packet next : Sent) (others : List Sent) → AllFrames (next ∷ others)
@@ -25,7 +25,8 @@ pub fn with_gap(alloc: Global, track: &[u16], from: usize, to: usize) -> io::Res
     Ok(heard)
 }
 
-/// Returns the half-bits before number `from`, and those from number `to` on.
+/// Returns the half-bits of a track before number `from`, and then the half-bits from number `to`
+/// on.
 fn without(alloc: Global, track: &[u16], from: usize, to: usize) -> io::Result<Vec<u16>>
     requires { (from ≤ to) × (to ≤ length track.now) }
     ensures { IfOk result (λ left. left.items ≡ take from track.now ++ drop to track.now) }

@@ -1,6 +1,6 @@
-//! Examples of the libraries. A decoder hears the capture on standard input, two boosters are
-//! compared, a programmer reads a CV, a station sends packets, and two receivers measure or hear
-//! badly. Each module contains code that you can copy.
+//! Examples of the libraries. A decoder hears the capture on standard input. Two boosters are
+//! compared, a programmer reads a CV, and a station sends packets. One receiver has a slow clock,
+//! and one receiver loses contact with the rails. Each module contains code that you can copy.
 #![tactic(auto)]
 
 mod cab;
@@ -44,7 +44,7 @@ pub enum Fault {
     /// A station cannot be created.
     #[error("{0}")]
     Station(#[from] StationFault),
-    /// A station rejects a command.
+    /// A station refuses a command.
     #[error("{0}")]
     Refused(#[from] Refused),
     /// An allocation of a comparison failed.
@@ -113,7 +113,7 @@ fn track_of(alloc: Global, packets: &[Packet]) -> io::Result<Vec<u16>> {
     Ok(track)
 }
 
-/// Prints each packet that a framer hears in these half-bits.
+/// Prints each packet that a framer finds in `halves`.
 fn print_heard<R: Print>(rt: &R, halves: &[u16]) -> io::Result<()> {
     let mut framer = Framer::new();
     for us in halves {

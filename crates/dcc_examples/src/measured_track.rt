@@ -10,7 +10,7 @@ use std::alloc::Global;
 use std::io;
 
 /// Returns half-bits as the clock measures them. If a station sent packets, a framer sees each of
-/// them in the result, and nothing else.
+/// these packets in the result, and nothing else.
 pub fn measured(alloc: Global, halves: &[u16]) -> io::Result<Vec<u16>>
     ensures { IfOk result (λ measured. (packets : List Sent) → AllFrames packets
         → halves.now ≡ sent_all packets → seen measured.items ≡ at_last_halves 0 packets) }

@@ -13,9 +13,9 @@ ghost use Rattle.dcc_order.specs.Hearing.{ArePackets, whole_track};
 use dcc_order::{hear_one, laws};
 use dcc_regs::{Decoder, PackedLoco};
 
-/// Creates a locomotive decoder with these CVs, and lets it hear a track in pieces. Returns the
-/// decoder. The locomotive stands still if the track contains no speed packet to its own address
-/// and no 128-step speed packet to all locomotives. Its CV8 has not changed.
+/// Creates a locomotive decoder with the CVs `cvs`, lets the decoder hear a track in pieces, and
+/// returns the decoder. The locomotive stands still if the track contains no speed packet to its
+/// own address and no 128-step speed packet to all locomotives. Its CV8 has not changed.
 pub fn park(cvs: &[u8; 1024], pieces: &[&[u16]]) -> PackedLoco
     ensures still { (packets : List Packet) → ArePackets packets (whole_track pieces.now)
         → list_any can_have_step (heard (start_who (cv_in cvs.now)) packets) ≡ false

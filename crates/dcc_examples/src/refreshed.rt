@@ -13,9 +13,9 @@ use dcc_regs::Decoder;
 use dcc_station::{Station, StationFault, laws};
 use std::alloc::Global;
 
-/// Gives one command to a new station, and lets a decoder hear the packets of the station until the
-/// queue is empty. Returns false if the station rejects the command, which means that a station
-/// does not send this packet.
+/// Passes one command to a new station, and lets a decoder hear the packets of the station until
+/// the queue is empty. Returns false if the station refuses the command, because a station does not
+/// send this packet.
 pub fn send_one<D: Decoder>(
     alloc: Global,
     decoder: &mut D,

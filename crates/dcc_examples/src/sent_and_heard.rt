@@ -10,7 +10,7 @@ use dcc_regs::Decoder;
 use dcc_wire::{Frame, Halves, Timing};
 use std::alloc::{AllocError, Global};
 
-/// Sends a packet in this timing, and lets a decoder hear the half-bits of the packet.
+/// Sends a packet with the timing `timing`, and lets a decoder hear the half-bits of the packet.
 pub fn transmit<D: Decoder>(
     alloc: Global,
     decoder: &mut D,
@@ -25,7 +25,7 @@ pub fn transmit<D: Decoder>(
     Ok(())
 }
 
-/// Returns the half-bits of a frame in this timing, as a vector.
+/// Returns the half-bits of a frame with the timing `timing`, as a vector.
 fn halves_of(alloc: Global, frame: Frame, timing: Timing) -> Result<Vec<u16>, AllocError>
     ensures { IfOk result (λ halves. halves.items ≡ sent frame timing) }
 {

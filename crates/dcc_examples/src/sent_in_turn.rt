@@ -1,4 +1,4 @@
-//! A function that gives two commands to a station. The second command is sent directly after the
+//! A function that passes two commands to a station. The second command is sent directly after the
 //! copies of the first command.
 
 ghost use Rattle.std.specs.Prelude.{◌≡◌, ◌↔◌, ◌++◌, ◌∷◌, [], ◌&&◌, false, None, List, IfOk, IfSome};
@@ -9,7 +9,7 @@ use dcc_packet::Packet;
 use dcc_station::{Station, StationFault, laws};
 use std::alloc::Global;
 
-/// Gives two commands to a new station whose number of copies is 1, and returns the next three
+/// Passes two commands to a new station whose number of copies is 1, and returns the next three
 /// packets of the station. The first packets are the copies of the first command, and the next
 /// packet is the second command. The station sends an own write twice, so the second command is the
 /// second or the third packet. Returns `None` if a station does not send one of the two commands.

@@ -1,5 +1,5 @@
-//! A station that sends: the next packet of the station becomes half-bits, and a framer finds the
-//! packet in them.
+//! A station that sends packets. The next packet of the station becomes half-bits, and a framer
+//! finds the packet in these half-bits.
 
 ghost use Rattle.std.specs.Prelude.{◌≡◌, ◌++◌, ◌∷◌, [], List, IfOk, length};
 ghost use Rattle.dcc_wire.specs.Frames.{IsFrame};

@@ -30,8 +30,8 @@ fn s3() -> Option<Who> {
     Some(Who::Loco(Some(Address::short(3).ok()?)))
 }
 
-/// Creates a station, and creates it again if an allocation failed. The function then checks that
-/// the station works.
+/// Creates a station, and tries again if an allocation failed. The function then checks that the
+/// station works.
 pub fn station(alloc: Global) -> Option<bool> {
     let mut wanted = false;
     let made = match Station::new(alloc, 4, 4, 1) {
@@ -56,8 +56,8 @@ pub fn station(alloc: Global) -> Option<bool> {
     }
 }
 
-/// Compares two lists, and compares them again if an allocation failed. The function then checks
-/// the verdict.
+/// Compares two lists, and tries again if an allocation failed. The function then checks the
+/// verdict.
 pub fn two_lists(alloc: Global) -> Option<bool> {
     let left = [
         packet(X)?,
@@ -102,7 +102,7 @@ fn next(lines: &[&str], at: u32) -> Option<Option<Packet>> {
 }
 
 /// Compares two lists packet by packet. If an allocation fails, the function checks that the
-/// comparer is unchanged, and gives the same packet again.
+/// comparer is unchanged, and passes the same packet again.
 pub fn in_step(alloc: Global) -> Option<bool> {
     let mut comparer = Comparer::new(alloc, s3()?);
     let mut wanted = false;

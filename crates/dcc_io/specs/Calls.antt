@@ -11,9 +11,9 @@ use Rattle.dcc_io.specs.Took.{LinesAt}
 use Rattle.dcc_io.specs.Items.{Grammar, ReadsUpTo, in_text}
 use Rattle.dcc_io.specs.WriterState.{WriterState}
 
--- if the result is Ok, `done` holds for its value. If the result is an error, `stopped` holds for a
--- stored error of the input, `unwritten` holds after a failed write, or `no_memory` holds after a
--- failed allocation. Only a failed write increases the count of failures of the writer.
+-- if the result is Ok, `done` holds for its value. If the result is a stored error of the input,
+-- `stopped` holds for this error. After a failed write `unwritten` holds, and after a failed
+-- allocation `no_memory` holds. Only a failed write increases the count of failures of the writer.
 abbrev pub CallPost : {A : Type 0} → (A → Type 0) → (KeptFault → Type 0) → Type 0 → Type 0 → WriterState
     → Result A ToolFault → WriterState → Type 0
 CallPost done stopped unwritten no_memory before (Ok answer) after =
@@ -30,8 +30,8 @@ pub record ReadsAll {A : Type 0} (grammar : Grammar A) (old new : InputState) (f
   pub lines : UsesAllLines old new
   pub fault : new.fault ≡ None
 
--- the input in state `old` was read up to the error `fault`. It is then in state `new`, which
--- stores this error. `fact` holds for the list of items before the error.
+-- the input in state `old` was read up to the error `fault`. The input is then in state `new`,
+-- which stores this error. `fact` holds for the list of items before the error.
 pub record ReadsTo {A : Type 0} (grammar : Grammar A) (old : InputState) (fault : KeptFault) (new : InputState)
     (fact : List A → Type 0) : Type 0 where
   pub kept : new.fault ≡ Some fault

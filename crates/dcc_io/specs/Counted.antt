@@ -16,8 +16,8 @@ CountsRun old run (Ok None) new = ⊥
 CountsRun old run (Err fault) new =
     (fault ≡ TooMuch) × (old.halves < run.n) × (new ≡ record old { fault = Some TooMuch })
 
--- the next word is on the current line of `old` and is the duration `us`. It was removed, and one
--- half-bit was subtracted from the limit.
+-- the next word is on the current line of `old` and is the duration `us`. The word was removed, and
+-- one half-bit was subtracted from the limit.
 pub record TakesHalf (old : InputState) (us : ℕ) (new : InputState) : Type 0 where
   pub word : List ℕ
   pub spells : duration_of word ≡ Some us
@@ -27,8 +27,8 @@ pub record TakesHalf (old : InputState) (us : ℕ) (new : InputState) : Type 0 w
   pub counted : new ≡ record mid { halves = mid.halves - 1 }
   pub fewer : new.bytes < old.bytes
 
--- the next word is on the current line of `old` and is `run`. It was removed, and the half-bits of
--- `run` were subtracted from the limit.
+-- the next word is on the current line of `old` and is `run`. The word was removed, and the
+-- half-bits of `run` were subtracted from the limit.
 pub record TakesRun (old : InputState) (run : Run) (new : InputState) : Type 0 where
   pub word : List ℕ
   pub spells : run_of word ≡ Some run

@@ -11,7 +11,7 @@ use Rattle.dcc_io.specs.ReaderState.{StartsWithByte, IsAtEnd}
 
 -- the state of an input
 pub record InputState : Type 0 where
-  -- the bytes that are still to be read, and a line feed after them, or `None` if the contract of
+  -- the bytes that are still to be read, with a line feed at the end, or `None` if the contract of
   -- the reader does not give its bytes
   pub text : Option (List ℕ)
   -- the buffered bytes, which are the first bytes of `text`
@@ -57,8 +57,8 @@ fresh remaining failures halves bytes = record {
 abbrev pub all_lines : InputState → List ℕ → ℕ
 all_lines input text = lines_through input.lines input.place.line text
 
--- the number of lines that are read after the bytes `used` were read from `input` and more bytes
--- follow
+-- the number of lines that are read after the bytes `used` were read from `input`, if more bytes
+-- follow them
 abbrev pub lines_up_to : InputState → List ℕ → ℕ
 lines_up_to input used = all_lines input (used ++ 10 ∷ [])
 
@@ -84,8 +84,8 @@ pub record TakesByte (old : InputState) (byte : ℕ) (new : InputState) : Type 0
   pub fault : new.fault ≡ None
   pub failures : new.failures ≡ old.failures
 
--- a read failed when the buffer was empty. It removed no byte, and the line feed after the text is
--- still to be read.
+-- a read failed when the buffer was empty. The read removed no byte, and the line feed after the
+-- text is still to be read.
 pub record FailsToRead (old new : InputState) : Type 0 where
   pub text : Keeps old.text new.text
   pub more : IfSome old.text (λ text. 0 < length text)

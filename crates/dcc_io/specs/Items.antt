@@ -31,8 +31,8 @@ in_text grammar input text = within_limit (grammar input) input text
 abbrev pub before_failure : {A : Type 0} → Grammar A → InputState → List ℕ → Items A
 before_failure grammar input used = grammar input used (Some kept.Read)
 
--- for any bytes that follow `used`: the items of `used` and these bytes in `old` are `items`,
--- followed by the items of these bytes in `new`
+-- an input that reads `used` in state `old` goes to state `new`. For any bytes that follow `used`,
+-- the items of all bytes in `old` are `items` and then the items of the following bytes in `new`.
 abbrev pub PrefixParsesTo : {A : Type 0} → Grammar A → InputState → List A → InputState → List ℕ → Type 0
 PrefixParsesTo grammar old items new used = (more : List ℕ) (last : Option KeptFault)
     → grammar old (used ++ more) last ≡ items_behind items (grammar new more last)
@@ -56,8 +56,9 @@ StopsAt grammar old fault new =
 abbrev pub EndsWith : {A : Type 0} → Option KeptFault → (List A → Type 0) → Items A → Type 0
 EndsWith fault fact items = (items.fault ≡ fault) × fact items.said
 
--- the input was read up to the error `fault`, or to its end if `fault` is `None`, and `fact` holds
--- for the items before it. If a read failed, these are the items of the bytes before this read.
+-- the input was read up to the error `fault`, or to its end if `fault` is `None`. The property
+-- `fact` holds for the items before the error. If a read failed, these are the items of the bytes
+-- before this read.
 abbrev pub ReadsUpTo : {A : Type 0} → Grammar A → InputState → Option KeptFault → InputState → (List A → Type 0)
     → Type 0
 ReadsUpTo grammar old (Some kept.Read) new fact =

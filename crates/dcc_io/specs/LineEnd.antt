@@ -4,7 +4,7 @@ use Rattle.dcc_io.specs.declared.fault.KeptFault.{KeptFault}
 use Rattle.dcc_io.specs.InputState.{InputState}
 use Rattle.dcc_io.specs.PassedWords.{Passed, AnswersWord}
 
--- `input` is on a line after the line with number `line`, or at its end
+-- `input` is on a line after the line with number `line`, or at the end of its text
 abbrev pub IsBehindLine : ℕ → InputState → Type 0
 IsBehindLine line input = IfSome input.text (λ rest. (rest ≡ []) ⊎ (line < input.place.line))
 

@@ -16,13 +16,13 @@ use Rattle.dcc_io.specs.NumberedLines.{is_good}
 abbrev pub has_line_feed : List ℕ → Bool
 has_line_feed bytes = list_any (λ byte. byte == 10) bytes
 
--- `line` is a valid line or a prefix of one, without a line feed
+-- `line` is a valid line or a prefix of a valid line, without a line feed
 pub record IsOneLine (line : List ℕ) : Type 0 where
   pub good : is_good line ≡ true
   pub one : has_line_feed line ≡ false
 
 -- the number of lines that were read after some bytes of line `line`, without the line feed at its
--- end. It stays `lines` if no byte was read.
+-- end. The number stays `lines` if no byte was read.
 abbrev pub lines_within : ℕ → ℕ → List ℕ → ℕ
 lines_within lines line [] = lines
 lines_within lines line (byte ∷ front) = line
@@ -51,7 +51,8 @@ pub record EndsText (old new : InputState) : Type 0 where
   pub place : new.place ≡ old.place
   pub halves : new.halves ≡ old.halves
 
--- `text` begins with an invalid line or a prefix of one, and the limit of `old` allows its bytes
+-- `text` begins with `line`, which is an invalid line or a prefix of an invalid line. The limit of
+-- `old` allows the bytes of `line`.
 pub record IsBadAt (old : InputState) (text : List ℕ) : Type 0 where
   pub line : List ℕ
   pub rest : List ℕ

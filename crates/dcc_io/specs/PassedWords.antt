@@ -15,12 +15,12 @@ pub record Passed (old : InputState) (words : List PlacedWord) (new : InputState
   pub open took use *
   pub halves : new.halves ≡ old.halves
 
--- `bytes` have no complete word of the input
+-- `bytes` contain no complete word if they are the next bytes of `input`
 abbrev pub IsBeforeWord : InputState → List ℕ → Type 0
 IsBeforeWord input bytes = ended_words input.place bytes ≡ []
 
--- the next word was read. It is on line `line`, no byte of a later line was read, and `so_far` is
--- its stored form.
+-- the next word was read, which is on line `line`. No byte of a later line was read, and `so_far`
+-- is the stored form of the word.
 pub record EndsWord (old : InputState) (line : ℕ) (so_far : RunWord) (new : InputState) : Type 0 where
   pub word : List ℕ
   pub spelled : Spells so_far word

@@ -55,7 +55,8 @@ pub record IsFilled (old new : ReaderState) : Type 0 where
   pub some : new.ahead ≡ [] → IsAtEnd new.text
   pub reads : new.reads ≤ old.reads + 1
 
--- if the result is Ok, the buffer is filled. If it is an error, a read failed and removed no byte.
+-- if the result is Ok, the buffer is filled. If the result is an error, a read failed and removed
+-- no byte.
 abbrev pub Fills : ReaderState → Result (Unit {0}) Failed → ReaderState → Type 0
 Fills old (Ok done) new = IsFilled old new
 Fills old (Err failed) new =

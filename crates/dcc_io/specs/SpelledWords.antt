@@ -7,8 +7,8 @@ use Rattle.dcc_io.specs.Words.{before_star, behind_star, is_dash}
 use Rattle.dcc_io.specs.declared.digits.Digits.{Digits}
 use Rattle.dcc_io.specs.declared.word.RunWord.{RunWord}
 
--- `so_far` is the stored form of `bytes`: their number, true if all of them are digits, and the
--- value of these digits
+-- `so_far` is the stored form of `bytes`: the number of bytes, true if all bytes are digits, and
+-- the value of these digits
 pub record AreDigits (so_far : Digits) (bytes : List ℕ) : Type 0 where
   pub len : so_far.len ≡ min (length bytes) 11
   pub all_digits : so_far.all_digits ≡ list_all is_ascii_digit bytes

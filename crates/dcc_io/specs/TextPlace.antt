@@ -10,8 +10,8 @@ pub record TextPlace : Type 0 where
 abbrev pub line_behind : ℕ → ℕ → ℕ
 line_behind line byte = if byte == 10 then line + 1 else line
 
--- the number of lines that were read after a byte on line `line`. It stays `lines` if no byte
--- follows: the last byte is then the line feed after the text, which is on no line.
+-- the number of lines that were read after a byte on line `line`. The number stays `lines` if no
+-- byte follows, because the last byte is then the line feed after the text, which is on no line.
 abbrev pub lines_with : ℕ → ℕ → List ℕ → ℕ
 lines_with lines line [] = lines
 lines_with lines line (byte ∷ rest) = line

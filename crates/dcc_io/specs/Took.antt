@@ -7,8 +7,8 @@ use Rattle.dcc_io.specs.declared.fault.KeptFault.TheVariants.{Number, Line, Read
 use Rattle.dcc_io.specs.Failures.{one_more}
 use Rattle.dcc_io.specs.InputState.{InputState, all_lines, lines_up_to}
 
--- for any bytes that follow `used`, the input has read equally many lines at the end of these bytes
--- in `new` as at the end of `used` and these bytes in `old`
+-- reading one or more bytes in state `new` leads to as many lines as reading `used` and these bytes
+-- in state `old`
 abbrev pub CountsLines : InputState → List ℕ → InputState → Type 0
 CountsLines old used new = (next : ℕ) (more : List ℕ) → all_lines new (next ∷ more) ≡ all_lines old (used
     ++ next ∷ more)
@@ -32,8 +32,8 @@ pub record Took (fact : List ℕ → Type 0) (old new : InputState) : Type 0 whe
   pub fault : new.fault ≡ None
   pub failures : new.failures ≡ old.failures
 
--- the value of `said` for the bytes of `text` that the limit of `input` allows, and for the error
--- U7 if `text` has more bytes
+-- the value of `said` for the bytes of `text`, if the limit of `input` allows all of them.
+-- Otherwise it is the value of `said` for the allowed bytes and the error U7.
 abbrev pub within_limit : {A : Type 0} → (List ℕ → Option KeptFault → A) → InputState → List ℕ → A
 within_limit said input text =
     if nat_le (length text) input.bytes then said text None else said (take (input.bytes - 1) text) (Some TooMuch)
@@ -58,7 +58,7 @@ abbrev pub OverflowsBehind : (List ℕ → Type 0) → InputState → InputState
 OverflowsBehind fact old new = (new.failures ≡ old.failures)
     × IfSome old.text (λ text. (old.bytes < length text) × fact (take (old.bytes - 1) text))
 
--- if the error is U4, a read failed after bytes for which `fails` holds. If it is another error,
+-- if the error is U4, a read failed after bytes for which `fails` holds. For any other error,
 -- `says` holds for the text of `old`.
 abbrev pub Stops : (List ℕ → Type 0) → (List ℕ → Type 0) → InputState → KeptFault → InputState → Type 0
 Stops fails says old Read new = FailsBehind fails old new

@@ -83,7 +83,7 @@ abbrev pub behind_star : List ℕ → Option (List ℕ)
 behind_star [] = None
 behind_star (byte ∷ word) = if byte == 42 then Some word else behind_star word
 
--- the count that is written after the `*`, or 1 if there is no `*`
+-- the count in the bytes after the `*` of a word, or 1 if the word has no `*`
 abbrev pub times : Option (List ℕ) → Option ℕ
 times None = Some 1
 times (Some count) = count_in_word count
@@ -93,8 +93,8 @@ run_with None n = None
 run_with (Some us) None = None
 run_with (Some us) (Some n) = Some (record { us = us; n = n })
 
--- the run of a word, which is a duration, or a duration, `*` and a count. It is `None` for any
--- other word.
+-- the run of a word, which is a duration, or a duration, `*` and a count. The result is `None` for
+-- any other word.
 abbrev pub run_of : List ℕ → Option Run
 run_of word = run_with (duration_of (before_star word)) (times (behind_star word))
 
@@ -105,7 +105,7 @@ is_dash byte = byte == 45
 abbrev pub is_mark : List ℕ → Bool
 is_mark word = length word == 3 && list_all is_dash word
 
--- for any bytes that follow `bytes`: the words of all these bytes from the position `from` are
--- `words`, followed by the words of the following bytes from the position `to`
+-- the position `from` becomes `to` after `bytes`. For any bytes that follow `bytes`, the words from
+-- `from` on are `words` and then the words of the following bytes from `to` on.
 abbrev pub Passes : TextPlace → List ℕ → List PlacedWord → TextPlace → Type 0
 Passes from bytes words to = (more : List ℕ) → ended_words from (bytes ++ more) ≡ words ++ ended_words to more

@@ -69,7 +69,7 @@ impl<R: Source> Buffered<R> {
     }
 
     /// Returns the next byte. Returns `None` at the end of the bytes of the reader. The function
-    /// reads only if the buffer is empty, and then once.
+    /// reads from the reader only if the buffer is empty, and then reads once.
     #[inline(always)]
     pub fn next(&mut self) -> Result<Option<u8>, Failed>
         ensures { AnswersNext self.old result self.new }

@@ -13,7 +13,7 @@ const MOST_HALVES: u32 = 16_777_216;
 /// The greatest value that is stored. The limits of a duration and of a count are smaller.
 const CAP: u64 = 100_000_000;
 
-/// The value and the number of the bytes of a number that were read so far.
+/// A number of which some bytes were read: the value of these bytes, and how many they are.
 #[derive(Clone, Copy, Debug)]
 pub struct Digits {
     len: u8,
@@ -52,8 +52,8 @@ impl Digits {
         self.len
     }
 
-    /// Returns the duration that these bytes give, at most 65535. Returns `None` if the bytes are
-    /// no duration.
+    /// Returns the duration that the read bytes mean, at most 65535. Returns `None` if these bytes
+    /// are no duration.
     pub fn duration(&self) -> Option<u16>
         ensures { (bytes : List ℕ) → AreDigits self.now bytes → result ≡ duration_of bytes }
     {
@@ -64,8 +64,8 @@ impl Digits {
         }
     }
 
-    /// Returns the count of half-bits that these bytes give. Returns `None` if the bytes are no
-    /// count.
+    /// Returns the count of half-bits that the read bytes mean. Returns `None` if these bytes are
+    /// no count.
     pub fn count(&self) -> Option<u32>
         ensures { (bytes : List ℕ) → AreDigits self.now bytes → result ≡ count_in_word bytes }
     {
@@ -82,7 +82,8 @@ impl Digits {
     }
 }
 
-/// Returns `number` with one more digit at its end, or the greatest stored value if this is less.
+/// Returns `number` with the digit `digit` at its end. Returns the greatest stored value if the new
+/// number is greater.
 #[inline(always)]
 fn capped_with(number: u32, digit: u8) -> u32
     requires { digit < 10 }

@@ -76,7 +76,7 @@ impl ToolFault {
 
 /// An error that an input stores and returns from each later call.
 ///
-/// An error that an input cannot have, such as a failed write, is not a value of this type.
+/// Errors that an input cannot have, such as a failed write, are not values of this type.
 #[derive(Clone, Copy, Debug, PartialEq, Eq)]
 pub enum KeptFault {
     /// U2: a word on the line `line` is no duration and no run, or follows `---`.

@@ -7,7 +7,7 @@ use crate::word::{Run, is_digit, is_gap};
 /// A word that is a run, at the beginning of a list of bytes, with a gap after the word.
 #[derive(Clone, Copy, Debug)]
 pub struct FrontRun {
-    /// The run that the word gives.
+    /// The run that the word means.
     pub run: Run,
 
     /// The number of bytes of the word.
@@ -17,8 +17,8 @@ pub struct FrontRun {
     pub ends_line: bool,
 }
 
-/// Returns the run at the beginning of these bytes, if it has a `*`, a count below 100000, and a
-/// gap after it. Most runs have a `*` and a count below 100000. Returns `None` for other bytes.
+/// Returns the run at the beginning of `bytes`, if the run has a `*` and a count below 100000, and
+/// a gap follows the run. Most runs have this form. Returns `None` for other bytes.
 #[inline(always)]
 pub fn front_run(bytes: &[u8]) -> Option<FrontRun>
     ensures { IfSome result (λ front. IsFrontRun bytes.now front) }
@@ -42,8 +42,8 @@ pub fn front_run(bytes: &[u8]) -> Option<FrontRun>
     })
 }
 
-/// Returns the number at the beginning of these bytes and its count of digits, at most five.
-/// Returns `None` if no other byte follows.
+/// Returns the number at the beginning of `bytes` and its count of digits, at most five. Returns
+/// `None` if no byte follows the digits.
 #[inline(always)]
 fn front_number(bytes: &[u8]) -> Option<(u32, usize)>
     ensures { IfSome result (λ front. (front.1 < length bytes.now) × SpellsNumber front.0 (take front.1 bytes.now)) }
@@ -54,8 +54,8 @@ fn front_number(bytes: &[u8]) -> Option<(u32, usize)>
     }
 }
 
-/// Returns the number at the beginning of these bytes and its count of digits, if the number has
-/// one to three digits. Most numbers have one to three digits. Returns `None` for other bytes.
+/// Returns the number at the beginning of `bytes` and its count of digits, if the number has one to
+/// three digits. Most numbers have one to three digits. Returns `None` for other bytes.
 #[inline(always)]
 fn short_number(bytes: &[u8]) -> Option<(u32, usize)>
     ensures { IfSome result (λ front. (front.1 < length bytes.now) × SpellsNumber front.0 (take front.1 bytes.now)) }
@@ -78,8 +78,8 @@ fn short_number(bytes: &[u8]) -> Option<(u32, usize)>
     Some((three, 3))
 }
 
-/// Returns the number at the beginning of these bytes and its count of digits, and reads digit by
-/// digit. Returns `None` if no other byte follows.
+/// Returns the number at the beginning of `bytes` and its count of digits. The function reads digit
+/// by digit. Returns `None` if no byte follows the digits.
 #[inline(never)]
 fn long_number(bytes: &[u8]) -> Option<(u32, usize)>
     ensures { IfSome result (λ front. (front.1 < length bytes.now) × SpellsNumber front.0 (take front.1 bytes.now)) }

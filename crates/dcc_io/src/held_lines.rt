@@ -8,7 +8,7 @@ use crate::writing::write_all;
 use arrayvec::ArrayVec;
 use std::marker::Model;
 
-/// Complete lines, at most 4096 bytes, that one call of the writer will write.
+/// A buffer of complete lines, with at most 4096 bytes, which the writer writes together.
 ///
 /// The owner writes all buffered lines before it reads more input. So a complete line never waits
 /// for input.

@@ -48,7 +48,7 @@ impl Limits {
 /// A reader with its position in the text and with the limits that are left.
 ///
 /// An input stores its first error U2, U3, U4 or U7. Each later call that would read returns this
-/// error. After the end of the reader was reached, the input does not read from it again.
+/// error. After the end of the reader was reached, the input does not read from the reader again.
 #[derive(Drop)]
 pub struct Input<R: Source> {
     source: Buffered<R>,
@@ -100,7 +100,7 @@ impl<R: Source> Input<R> {
     }
 
     #[tactic(auto, using(crate::proofs::InputLemmas::more_behind, crate::proofs::InputLemmas::line_of_byte, crate::proofs::InputLemmas::more_to_come))]
-    /// Returns the next byte. The input appends a line feed to the text. Returns `None` after this
+    /// Returns the next byte. The input appends a line feed to its text. Returns `None` after this
     /// line feed.
     #[inline(always)]
     pub(crate) fn next_byte(&mut self) -> Result<Option<u8>, KeptFault>
@@ -137,10 +137,10 @@ impl<R: Source> Input<R> {
 
     /// Returns the number of lines that were used, including a line of which only a part was used.
     ///
-    /// After U2 or U3 the result is the line of the error, or the last line if the error is on the
-    /// line after the last. After U4, or U7 for bytes, the result is the line of the last byte that
-    /// was used. After U7 for half-bits, the result is the line of the word with too many
-    /// half-bits.
+    /// After U2 or U3 the result is the line of the error. If the error is on the line after the
+    /// last line, the result is the last line. After U4, or U7 for bytes, the result is the line of
+    /// the last byte that was used. After U7 for half-bits, the result is the line of the word with
+    /// too many half-bits.
     pub fn lines(&self) -> u32
         ensures { result ≡ self.now.lines }
     {
@@ -162,8 +162,8 @@ impl<R: Source> Input<R> {
         self.halves_left
     }
 
-    /// Returns true if the buffer contains a complete word, so that the next half-bit needs no
-    /// read.
+    /// Returns true if the buffer contains a complete word. The next half-bit then needs no read of
+    /// the reader.
     pub fn has_buffered_word(&self) -> bool
         ensures word { IsTrue result → ended_words self.now.place self.now.ahead ≢ [] }
         ensures front { StartsWithBytes self.now.ahead self.now.text }
@@ -172,8 +172,8 @@ impl<R: Source> Input<R> {
         has_ended_word(self.in_comment, ahead)
     }
 
-    /// Returns true if `byte` separates words: it is a gap, or it is in a comment. The position of
-    /// the input moves past the byte.
+    /// Returns true if `byte` separates words, because it is a gap or is in a comment. The position
+    /// of the input moves past the byte.
     #[inline(always)]
     pub(crate) fn passes_gap(&mut self, byte: u8) -> bool
         ensures gap { result ≡ (comments self.old.place.in_comment byte || is_gap byte) }
@@ -238,8 +238,8 @@ impl<R: Source> Input<R> {
 
     /// Removes the word of `word_len` bytes at the beginning of the buffer, and the gap after this
     /// word. If `with_line_feed` is true, the function also removes the line feed of a CR LF. If
-    /// `with_line_feed` is false, the line feed stays, so that the line of the word is the last
-    /// line that was used.
+    /// `with_line_feed` is false, the line feed stays. The line of the word is then the last line
+    /// that was used.
     #[inline(always)]
     fn pass_word_and_gap(&mut self, word_len: usize, ends_line: bool, with_line_feed: bool)
         requires fault { self.old.fault ≡ None }
@@ -391,9 +391,9 @@ impl<R: Source> Input<R> {
         front_line(self.source.ahead())
     }
 
-    /// Removes the next line and returns true, if the buffer contains the complete line, the line
-    /// is valid, and it is blank or a comment. Returns false, and removes nothing, for any other
-    /// line.
+    /// Removes the next line and returns true, if the buffer contains the complete line, and the
+    /// line is a valid line that is blank or a comment. Returns false, and removes nothing, for any
+    /// other line.
     pub(crate) fn take_skipped_line(&mut self) -> bool
         requires { self.old.fault ≡ None }
         ensures taken { IsTrue result → SkipsLine self.old self.new }
@@ -425,7 +425,7 @@ impl<R: Source> Input<R> {
         true
     }
 
-    /// Stores the error, and returns it. Each later call returns this error too.
+    /// Stores and returns the error `fault`. Each later call returns this error too.
     pub(crate) fn refuse(&mut self, fault: KeptFault) -> KeptFault
         requires { fault ≢ KeptFault.Read }
         ensures answer { result ≡ fault }
@@ -453,8 +453,8 @@ pub fn next_word<R: Source>(input: &mut Input<R>) -> Result<Option<(u64, RunWord
 }
 
 /// Removes the next word and returns its duration. Returns `None` if the buffer does not begin with
-/// a complete word that is a duration. The half-bit counts against the limit. The function reads
-/// most half-bits of a capture, and reads each byte once.
+/// a complete word that is a duration. The half-bit counts against the limit. Most half-bits of a
+/// capture are read by this function, which reads each byte once.
 #[inline(always)]
 pub fn take_buffered_half<R: Source>(input: &mut Input<R>) -> Option<u16>
     requires { input.old.fault ≡ None }
@@ -515,7 +515,7 @@ pub fn line_of_next_byte<R: Source>(input: &Input<R>) -> u64
     input.line
 }
 
-/// Returns true if the end of a word is in these bytes. The parameter `in_comment` is true if the
+/// Returns true if `bytes` contain the end of a word. The parameter `in_comment` is true if the
 /// bytes begin in a comment.
 fn has_ended_word(in_comment: bool, bytes: &[u8]) -> bool
     ensures { (line : ℕ) → IsTrue result
@@ -535,8 +535,8 @@ fn has_ended_word(in_comment: bool, bytes: &[u8]) -> bool
     false
 }
 
-/// Returns true if a byte ends the word before this byte. The parameter `comment` is true if the
-/// byte is in a comment.
+/// Returns true if `byte` ends the word before it. The parameter `comment` is true if `byte` is in
+/// a comment.
 #[inline(always)]
 fn ends_word(comment: bool, byte: u8) -> bool
     ensures { result ≡ (comment || is_gap byte) }

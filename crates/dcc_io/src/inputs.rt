@@ -1,6 +1,6 @@
 //! Functions that read an input item by item: words and their half-bits, lines, and the values of
-//! lines. The crates that depend on this crate use these functions. `dcc_tool` does not re-export
-//! these functions.
+//! lines. The crates that depend on this crate use these functions. The crate `dcc_tool` does not
+//! re-export them.
 ghost use Rattle.std.specs.Prelude.{◌≡◌, ◌≢◌, None, IfSome};
 ghost use Rattle.dcc_io.specs.KeptAnswers.{AnswersKept, KeepsFault};
 ghost use Rattle.dcc_io.specs.LineEnd.{SkipsToLineEnd};

@@ -9,8 +9,8 @@ pub fn lines_are_counted_by_line_feeds()
     ensures { LinesAreCounted }
 {}
 
-/// Theorem: the value of each packet line of a text is a frame, and so is each command to a
-/// station. A frame has 3 to 6 bytes whose exclusive or is zero.
+/// Theorem: each packet line of a text means a frame, and each command to a station means a frame.
+/// A frame has 3 to 6 bytes whose exclusive or is zero.
 pub fn lines_say_frames()
     ensures packets { PacketLinesSayFrames }
     ensures commands { StationLinesSayFrames }

@@ -58,8 +58,8 @@ pub fn next_item<R: Source, L: ParsedLine>(input: &mut Input<R>) -> Result<Optio
 }
 
 /// Removes the next line and returns its value, if the buffer contains the complete line and the
-/// line is neither blank nor a comment. The function returns most lines of an input, without a read
-/// of the reader and without a copy.
+/// line is neither blank nor a comment. Most lines of an input are returned by this function, which
+/// neither reads from the reader nor copies the line.
 ///
 /// Returns `None`, and removes nothing, for any other line. The caller then calls [`next_item`],
 /// which handles comments, errors and incomplete lines.

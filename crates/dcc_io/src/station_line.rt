@@ -10,7 +10,7 @@ use dcc_packet::{Packet, PacketFault};
 /// A request to a station.
 #[derive(Clone, Copy)]
 pub enum StationLine {
-    /// The station must accept this command.
+    /// The station gets this packet as a command.
     Command(Packet),
     /// The station must send this number of packets.
     Send(u16),

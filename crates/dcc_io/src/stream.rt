@@ -32,7 +32,7 @@ pub trait Source {
 
 /// A destination of bytes.
 ///
-/// No operation flushes a destination. So `write` must pass on each byte that it accepts.
+/// No operation flushes a destination, so `write` must pass on each byte that it accepts.
 pub trait Sink {
     // the bytes that were written, and the number of writes that failed or wrote no byte
     ghost state: { Self → WriterState };
@@ -53,8 +53,8 @@ pub struct Counted<T> {
     /// The reader or writer that is wrapped.
     pub inner: T,
 
-    /// The number of calls that failed, and of writes that wrote none of the given bytes. The
-    /// number of failures stops at its greatest value.
+    /// The number of failed calls. A write that writes none of the given bytes counts as failed
+    /// too. The number stops at its greatest value.
     pub failures: u64,
 }
 

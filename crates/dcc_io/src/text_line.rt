@@ -20,7 +20,7 @@ pub struct TextLine {
 }
 
 impl TextLine {
-    /// Creates an empty line with this number.
+    /// Creates an empty line with the number `number`.
     pub(crate) fn new(number: u64) -> TextLine
         ensures number { result.number ≡ number }
         ensures text { result.text.bytes ≡ [] }
@@ -31,8 +31,8 @@ impl TextLine {
         }
     }
 
-    /// Returns true if the line is still valid after `byte` is appended: at most 512 bytes, all
-    /// ASCII.
+    /// Returns true if the line is still valid after `byte` is appended. A valid line has at most
+    /// 512 bytes, all of which are ASCII.
     pub(crate) fn has_room_for(&self, byte: u8) -> bool
         ensures { result ≡ (nat_lt (array_string_len self.now.text) 512 && is_ascii byte) }
     {
@@ -56,7 +56,7 @@ impl TextLine {
     }
 }
 
-/// Returns the line at the beginning of these bytes, if a line feed ends the line and the line is
+/// Returns the line at the beginning of `bytes`, if a line feed ends the line and the line is
 /// valid. Returns `None` for a line that is blank or a comment.
 pub fn front_line(bytes: &[u8]) -> Option<&[u8]>
     ensures { IfSome result (λ line. IsFrontLine bytes.now line.now) }
@@ -69,7 +69,7 @@ pub fn front_line(bytes: &[u8]) -> Option<&[u8]>
     Some(line)
 }
 
-/// Returns the number of bytes of the line at the beginning of these bytes, if a line feed ends the
+/// Returns the number of bytes of the line at the beginning of `bytes`, if a line feed ends the
 /// line and the line is valid. Returns `None` for a line that is neither blank nor a comment.
 pub fn skipped_line_len(bytes: &[u8]) -> Option<usize>
     ensures { IfSome result (λ len. IsSkippedLine bytes.now len) }
@@ -82,7 +82,7 @@ pub fn skipped_line_len(bytes: &[u8]) -> Option<usize>
     }
 }
 
-/// Returns the number of bytes of the line at the beginning of these bytes, if a line feed ends the
+/// Returns the number of bytes of the line at the beginning of `bytes`, if a line feed ends the
 /// line and the line is valid. Returns `None` for other bytes.
 fn ended_line_len(bytes: &[u8]) -> Option<usize>
     ensures { IfSome result (λ len. IsEndedLine bytes.now len) }

@@ -79,7 +79,7 @@ impl RunWord {
         self.all_dashes && self.duration.len() == 3
     }
 
-    /// Returns the run that the word gives. Returns `None` if the word is no run.
+    /// Returns the run that the word means. Returns `None` if the word is no run.
     pub fn run(&self) -> Option<Run>
         ensures { (word : List ℕ) → Spells self.now word → result ≡ run_of word }
     {
@@ -95,7 +95,7 @@ impl RunWord {
 /// A word that is a duration, at the beginning of a list of bytes, with a gap after the word.
 #[derive(Clone, Copy, Debug)]
 pub struct FrontWord {
-    /// The duration that the word gives, in microseconds.
+    /// The duration that the word means, in microseconds.
     pub us: u16,
 
     /// The number of bytes of the word.
@@ -105,9 +105,9 @@ pub struct FrontWord {
     pub ends_line: bool,
 }
 
-/// Returns the word at the beginning of these bytes, if it has two or three digits and a space or a
-/// line feed ends it. Most words of a capture have two or three digits. Returns `None` for other
-/// bytes.
+/// Returns the word at the beginning of `bytes`, if it consists of two or three digits and a space
+/// or a line feed ends it. Most words of a capture have two or three digits. Returns `None` for
+/// other bytes.
 #[inline(always)]
 pub fn short_front_word(bytes: &[u8]) -> Option<FrontWord>
     ensures { IfSome result (λ front. IsFrontWord bytes.now front) }
@@ -150,8 +150,8 @@ fn ends_most_words(byte: u8) -> bool
     byte == b' ' || byte == b'\n'
 }
 
-/// Returns the word at the beginning of these bytes, if it is a duration and a gap ends it. Returns
-/// `None` for other bytes.
+/// Returns the word at the beginning of `bytes`, if the word is a duration and a gap ends it.
+/// Returns `None` for other bytes.
 pub fn front_word(bytes: &[u8]) -> Option<FrontWord>
     ensures { IfSome result (λ front. IsFrontWord bytes.now front) }
 {
@@ -166,8 +166,8 @@ pub fn front_word(bytes: &[u8]) -> Option<FrontWord>
     None
 }
 
-/// Returns the word of `len` digits with the value `number`, if the byte after these digits is a
-/// gap. Returns `None` for other bytes.
+/// Returns the word of `len` digits with the value `number`, if the byte `behind` after these
+/// digits is a gap. Returns `None` if `behind` is no gap or if the word is no duration.
 fn ended_word(number: u32, len: usize, behind: u8) -> Option<FrontWord>
     ensures { IfSome result (λ front. EndedWord number len behind front) }
 {
@@ -193,7 +193,7 @@ pub struct WholeWord {
     pub ends_line: bool,
 }
 
-/// Returns the word at the beginning of these bytes, if a gap ends it. Returns `None` for other
+/// Returns the word at the beginning of `bytes`, if a gap ends the word. Returns `None` for other
 /// bytes.
 pub fn whole_word(bytes: &[u8]) -> Option<WholeWord>
     ensures { IfSome result (λ front. IsWholeWord bytes.now front) }
@@ -230,7 +230,7 @@ pub fn len_of_line(bytes: &[u8]) -> usize
     }
 }
 
-/// Returns true if the third or fourth byte is `*`. In most runs the third or fourth byte is `*`.
+/// Returns true if the third or fourth byte of `bytes` is `*`, as in most runs.
 #[inline(always)]
 pub fn begins_with_run(bytes: &[u8]) -> bool
     ensures { result ≡ (nat_lt 3 (length bytes.now)
@@ -239,7 +239,7 @@ pub fn begins_with_run(bytes: &[u8]) -> bool
     bytes.len() > 3 && (bytes[2] == b'*' || bytes[3] == b'*')
 }
 
-/// Returns true if these bytes begin with a line feed.
+/// Returns true if `bytes` begin with a line feed.
 #[inline(always)]
 pub fn begins_with_line_feed(bytes: &[u8]) -> bool
     ensures { IsTrue result → HasLineFeedAt bytes.now 0 }

@@ -19,9 +19,9 @@ use Rattle.dcc_listen.specs.VerdictLine.{verdict_line}
 use Rattle.dcc_io.specs.WriterState.{WriterState}
 use Rattle.dcc_io.specs.WrittenBytes.{AppendsFront}
 
--- two captures were read to their ends, and `verdict` is the verdict on their packets. If and only
--- if it is `Alike`, these packets are alike for decoder `who`. Then the decoder has equal registers
--- after both captures, from all registers at the start.
+-- two captures were read to their ends, and `verdict` is the verdict on their packets. The verdict
+-- is `Alike` if and only if these packets are alike for decoder `who`. After the verdict `Alike`,
+-- equal registers at the start lead to equal registers after both captures.
 pub record Compared (who : Who) (left right left' right' : InputState) (verdict : Verdict) : Type 0 where
   pub packets : List Packet
   pub others : List Packet
@@ -31,11 +31,12 @@ pub record Compared (who : Who) (left right left' right' : InputState) (verdict 
   pub alike_is : (verdict ≡ Alike) ↔ AlikeFor who packets others
   pub alike : verdict ≡ Alike → LeaveTheSame who packets others
 
--- no byte or a part of a capture was read, without an error
+-- between the states `old` and `new`, no byte or a part of a capture was read, and no error
+-- occurred
 abbrev pub ReadsSome : InputState → InputState → Type 0
 ReadsSome old new = (new ≡ old) ⊎ ReadsOn old new
 
--- one of the two captures has the error `fault`, and the other one was read without an error
+-- one of the two captures has the error `fault`, and the other capture was read without an error
 abbrev pub OneFails : InputState → InputState → ToolFault → InputState → InputState → Type 0
 OneFails left right fault left' right' =
     (GatherFails left fault left' × ReadsSome right right') ⊎ (ReadsSome left left' × GatherFails right fault right')

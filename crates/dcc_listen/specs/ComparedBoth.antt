@@ -19,8 +19,8 @@ use Rattle.dcc_io.specs.WriterState.{WriterState}
 use Rattle.dcc_io.specs.WrittenBytes.{AppendsFront}
 
 -- both captures of an input were read to their ends, and `verdict` is the verdict on their packets.
--- If and only if it is `Alike`, these packets are alike for decoder `who`. Then the decoder has
--- equal registers after both captures, from all registers at the start.
+-- The verdict is `Alike` if and only if these packets are alike for decoder `who`. After the
+-- verdict `Alike`, equal registers at the start lead to equal registers after both captures.
 pub record ComparedBoth (who : Who) (input input' : InputState) (verdict : Verdict) : Type 0 where
   pub packets : List Packet
   pub others : List Packet

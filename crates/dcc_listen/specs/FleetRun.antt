@@ -18,8 +18,8 @@ use Rattle.dcc_saved.specs.FleetText.{fleet_text}
 abbrev pub Fleet : Type 0
 Fleet = List (Who × RegisterMap)
 
--- each decoder of the fleet `starts` has heard the packets in `halves` and then is the decoder at
--- the same place of `ends`
+-- each decoder of the fleet `starts` has heard the packets in `halves`, and then equals the decoder
+-- at the same place of the fleet `ends`
 abbrev pub HaveHeard : Fleet → Fleet → List ℕ → Type 0
 HaveHeard starts ends halves = AllZip (λ start end. HasHeardHalves halves start.0 start.1 end.0 end.1) starts ends
 

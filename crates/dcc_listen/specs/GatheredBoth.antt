@@ -67,8 +67,8 @@ pub record SecondRunsOver (old new : InputState) : Type 0 where
   pub ends : EndsFirst 0 old halves mid
   pub over : RunsOver mid new
 
--- the input has read the lines up to an error of one of the two captures, as `FirstLinesAt` gives
--- them. If a run of the second capture exceeds the limit, these are the lines up to this run.
+-- the input has read the lines that `FirstLinesAt` gives for an error of one of the two captures.
+-- If a run of the second capture exceeds the limit, the input has read the lines up to this run.
 abbrev pub BothLinesAt : InputState → KeptFault → InputState → Type 0
 BothLinesAt old kept.TooMuch new = FirstLinesAt 0 old kept.TooMuch new ⊎ SecondRunsOver old new
 BothLinesAt old fault new = FirstLinesAt 0 old fault new

@@ -13,19 +13,21 @@ use Rattle.dcc_capture.specs.FrameText.{IsFrameText}
 use Rattle.dcc_capture.specs.Listing.{AreLines, numbered_text}
 use Rattle.dcc_capture.specs.Shown.{WritesLinesOfCapture}
 
--- The text of the rejection that uses the preamble of a packet: it is `since` half-bits before the
--- half-bit with the number `half`. Without such a rejection the text is empty.
+-- The text of the refusal that uses the preamble of a lost packet. The last half-bit of the packet
+-- has the number `half`, and the refusal ends `since` half-bits before it. Without a refusal the
+-- text is empty.
 abbrev pub refusal_place_text : ℕ → Option ℕ → List ℕ
 refusal_place_text half None = []
 refusal_place_text half (Some since) = codes " after " ++ decimal (half - since)
 
--- the text of a preamble that is too short; `half` is the number of the last half-bit of the packet,
--- counted from 1
+-- the text of a preamble that is too short. `half` is the number of the last half-bit of the
+-- packet, counted from 1.
 abbrev pub preamble_text : ℕ → ShortPreamble → List ℕ
 preamble_text half preamble =
     codes "preamble " ++ decimal preamble.ones ++ refusal_place_text half preamble.since_refusal
 
--- the text of the half-bits outside the limits, which are halves of what `name` says
+-- the text of the half-bits outside the limits of a decoder. The list `name` is the word `ones` or
+-- `zeros`.
 abbrev pub off_limits_text : List ℕ → OffLimits → List ℕ
 off_limits_text name off =
     name ++ codes " " ++ decimal off.count ++ codes " from " ++ decimal off.least ++ codes " to " ++ decimal off.most
@@ -37,19 +39,19 @@ cause_texts half packet =
     ++ option_to_list (option_map (off_limits_text (codes "ones")) packet.ones)
     ++ option_to_list (option_map (off_limits_text (codes "zeros")) packet.zeros)
 
--- the text of all causes, with a comma and a space between two
+-- the texts of all causes of the loss of a packet, with a comma and a space between every two texts
 abbrev pub causes_text : ℕ → LostPacket → List ℕ
 causes_text half packet = join_by (λ text. text) (codes ", ") (cause_texts half packet)
 
--- `line` is the line of a lost packet; `half` is the number of its last half-bit, counted from 1. If
--- `words` is true, the packet has the text of its packet line, otherwise the hexadecimal digits of
--- its bytes.
+-- `line` is the line of a lost packet, and `half` is the number of the last half-bit of this
+-- packet, counted from 1. If `words` is true, the packet has the text of its packet line, otherwise
+-- the hexadecimal digits of its bytes.
 abbrev pub IsLostLine : Bool → ℕ → LostPacket → List ℕ → Type 0
 IsLostLine words half packet line =
     (text : List ℕ) × IsFrameText words packet.frame text
     × (line ≡ numbered_text half (codes "lost " ++ text ++ codes ": " ++ causes_text half packet))
 
--- the text is the listing of the packets that are lost in a list of half-bits: one line for each
+-- a text is the listing of the packets that are lost in the list `halves`: one line for each
 -- packet, in order
 abbrev pub IsLostListing : Bool → List ℕ → List ℕ → Type 0
 IsLostListing words halves text = AreLines (IsLostLine words) (packets_lost halves) text

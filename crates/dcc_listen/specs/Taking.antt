@@ -10,8 +10,8 @@ use Rattle.dcc_io.specs.Faults.{as_tool_fault}
 use Rattle.dcc_io.specs.InputState.{InputState}
 use Rattle.dcc_listen.specs.Gathered.{Gathered, GatherFails}
 
--- half-bits were read between the states `start` and `now`. `packets` are the packets in them, and
--- `framer` represents these half-bits.
+-- half-bits were read between the states `start` and `now`. `packets` are the packets in these
+-- half-bits, and `framer` represents them.
 pub record Gathering (start now : InputState) (framer : Framer) (packets : List Packet) : Type 0 where
   pub halves : List ℕ
   pub gave : GaveHalves start halves now
@@ -20,7 +20,7 @@ pub record Gathering (start now : InputState) (framer : Framer) (packets : List 
   pub few : length packets ≤ length halves
 
 -- the result is the next packet of the capture after `packets`, `None` at the end of the capture,
--- or its error
+-- or the error of the capture
 abbrev pub ReadsPacket : InputState → List Packet → Result (Option Packet) KeptFault → InputState → Framer → Type 0
 ReadsPacket start packets (Ok (Some p)) now framer = Gathering start now framer (packets ++ p ∷ [])
 ReadsPacket start packets (Ok None) now framer = Gathered start packets now

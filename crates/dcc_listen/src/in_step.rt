@@ -1,4 +1,5 @@
-//! Comparison of two sides, which are read in turn. A side is a capture or a list of packets.
+//! The comparison of two sides. A side is a capture or a list of packets. A packet is read from the
+//! side that the comparer asks for.
 
 // A failed allocation is returned by `match`: it is an error of the comparison, whose crate has no
 // conversion to the errors of operations.
@@ -16,7 +17,7 @@ use dcc_regs::Who;
 use std::alloc::Global;
 
 /// Reads two sides to their ends, and returns the verdict on their packets. The function reads the
-/// next packet from the side that the comparer wants, and stores at most one block of each side.
+/// next packet from the side that the comparer asks for, and stores at most one block of each side.
 /// After the verdict it reads both sides to their ends to find errors.
 pub(crate) fn compare_in_step<L: Side, R: Side>(
     alloc: Global,
@@ -48,7 +49,8 @@ pub(crate) fn compare_in_step<L: Side, R: Side>(
     }
 }
 
-/// Reads the next packet of a side, and gives this packet, or the end of the side, to the comparer.
+/// Reads the next packet of a side, and passes this packet, or the end of the side, to the
+/// comparer.
 fn give_next<S: Side>(
     comparer: &mut Comparer,
     side: &mut S,

@@ -18,14 +18,14 @@ use dcc_lost::{LostFinder, LostPacket};
 /// Writes a line for each packet of a capture that a decoder does not hear. The line begins with the
 /// number of the last half-bit of the packet, counted from 1, and ends with the causes.
 ///
-/// A line has the bytes of the packet in hex, `72 lost 036261: preamble 16`, or with `words` the
-/// packet line, `72 lost loco s3 speed28 f 4: preamble 16`. The function writes a complete line
-/// before it reads more input.
+/// A line has the bytes of the packet in hex, for example `72 lost 036261: preamble 16`. If `words`
+/// is true, it has the packet line, for example `72 lost loco s3 speed28 f 4: preamble 16`. The
+/// function writes a complete line before it reads more input.
 ///
 /// Errors: U2 at a word that is no run. U4 if a read fails. U7 if the input exceeds a limit. U5 if
 /// a write fails. After U2, U4 or U7 the lines of the capture before the error were written, and
-/// `input` stores the error. After U5 a prefix of the lines was written. `input` also stores an
-/// error that was found before the write failed.
+/// `input` stores the error. After U5 a prefix of the lines was written. If an error of the capture
+/// was found before the write failed, `input` stores this error.
 pub fn lost<R: Source, W: Sink>(
     input: &mut Input<R>,
     writer: &mut W,
@@ -104,7 +104,7 @@ fn list_run<W: Sink>(
     Ok(())
 }
 
-/// Appends a line to the buffer if a packet is lost at half-bit `half`.
+/// Appends a line to the buffer if a packet is lost at the half-bit with the number `half`.
 #[tactic(auto, unfolding(dcc_lost::specs::Causes::report_lost))]
 fn hold_lost<W: Sink>(
     held: &mut HeldLines,
@@ -123,7 +123,8 @@ fn hold_lost<W: Sink>(
     }
 }
 
-/// Appends the line of the packet that is lost at half-bit `half` to the buffer.
+/// Appends the line of the packet that is lost at the half-bit with the number `half` to the
+/// buffer.
 fn hold_packet<W: Sink>(
     held: &mut HeldLines,
     half: u32,

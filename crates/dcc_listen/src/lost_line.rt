@@ -30,7 +30,7 @@ pub(crate) fn lost_line(half: u32, packet: &LostPacket, words: bool) -> LostLine
     line
 }
 
-/// Appends the causes of a packet, with a comma and a space between two.
+/// Appends the causes of a packet, with a comma and a space between every two causes.
 fn append_causes(line: &mut LostLine, half: u32, packet: &LostPacket)
     requires { array_vec_len line.old + 150 ≤ 256 }
     ensures items { line.new.items ≡ line.old.items ++ causes_text half packet.now }
@@ -43,7 +43,8 @@ fn append_causes(line: &mut LostLine, half: u32, packet: &LostPacket)
     append_off_limits(line, has_cause, b"zeros", &packet.zeros);
 }
 
-/// Appends the cause of a preamble that is too short, if there is one.
+/// Appends the cause of a preamble that is too short. If the preamble is no cause, nothing is
+/// appended.
 #[tactic(auto, using(dcc_io::proofs::DecimalLemmas::decimal_is_short))]
 fn append_preamble(line: &mut LostLine, half: u32, preamble: &Option<ShortPreamble>)
     requires { array_vec_len line.old + 40 ≤ 256 }
@@ -57,8 +58,8 @@ fn append_preamble(line: &mut LostLine, half: u32, preamble: &Option<ShortPreamb
     }
 }
 
-/// Appends the number of the half-bit with a rejection, so many half-bits before the half-bit with
-/// the number `half`.
+/// Appends the number of the last half-bit of a refusal, which is `since` half-bits before the
+/// half-bit with the number `half`. If `since` is `None`, nothing is appended.
 #[tactic(auto, using(dcc_io::proofs::DecimalLemmas::decimal_is_short))]
 fn append_refusal_place(line: &mut LostLine, half: u32, since: Option<u8>)
     requires { array_vec_len line.old + 17 ≤ 256 }
@@ -71,8 +72,8 @@ fn append_refusal_place(line: &mut LostLine, half: u32, since: Option<u8>)
     }
 }
 
-/// Appends the cause of half-bits outside the limits, if there are some. Before it come a comma and a
-/// space if `has_cause` is true.
+/// Appends the cause of half-bits outside the limits. If `has_cause` is true, a comma and a space
+/// come before this cause. If there are no such half-bits, nothing is appended.
 #[tactic(auto, using(dcc_io::proofs::DecimalLemmas::decimal_is_short))]
 fn append_off_limits(line: &mut LostLine, has_cause: bool, name: &[u8], off: &Option<OffLimits>)
     requires room { array_vec_len line.old + 55 ≤ 256 }

@@ -12,7 +12,7 @@ use dcc_regs::Decoder;
 use dcc_saved::write_fleet;
 use dcc_wire::Framer;
 
-/// Applies a capture to a fleet, and then writes the decoder text of the fleet.
+/// Lets a fleet hear a capture, and then writes the decoder text of the fleet.
 ///
 /// Each decoder hears each packet of the capture (NMRA S-9.2, RCN-211). The text is written after
 /// the fleet has heard the whole capture.
@@ -44,7 +44,7 @@ pub fn run<R: Source, W: Sink>(
     play(decoders, input, writer)
 }
 
-/// Applies the capture to the fleet, and writes the decoder text of the fleet.
+/// Lets the fleet hear the capture, and writes the decoder text of the fleet.
 fn play<R: Source, W: Sink>(
     decoders: &mut [Box<dyn Decoder>],
     input: &mut Input<R>,

@@ -17,9 +17,9 @@ use std::alloc::Global;
 /// Reads two captures to their ends, and writes the first difference of their packets for a
 /// decoder: `alike`, `writes`, `members k` or `order k`. The function also returns the verdict.
 ///
-/// Up to the verdict, the function reads the next packet from the capture that the comparer wants.
-/// After the verdict, the function reads both captures to their ends. At most one block of each
-/// capture is stored. Nothing is written before both captures have ended.
+/// Up to the verdict, the function reads the next packet from the capture that the comparer asks
+/// for. After the verdict, the function reads both captures to their ends. At most one block of
+/// each capture is stored. Nothing is written before both captures have ended.
 ///
 /// Errors: U2, U4 or U7 if a capture has an error, even after the first difference. If both
 /// captures have an error, `same` returns one of the two errors. U5 if a write fails. U6 if an

@@ -16,14 +16,15 @@ use dcc_order::laws::{alike_is_the_verdict, alike_lists_leave_the_same};
 use dcc_regs::Who;
 use std::alloc::Global;
 
-/// Reads two captures to their ends. A line with the only word `---` separates the captures. Writes
-/// the first difference of their packets for a decoder: `alike`, `writes`, `members k` or `order
-/// k`. The function also returns the verdict. Nothing is written before both captures have ended.
+/// Reads two captures to their ends. A line with the only word `---` separates the captures. The
+/// function writes the first difference of their packets for a decoder: `alike`, `writes`, `members
+/// k` or `order k`. The function also returns the verdict. Nothing is written before both captures
+/// have ended.
 ///
 /// Errors: U2, U4 or U7 if a capture has an error, even after the first difference. U3 with P10 on
 /// the line after the last line, if there is no line `---`. U2 if another word is on the line of
-/// `---`: the line of the error is the line of the later word. U5 if a write fails. U6 if an
-/// allocation fails.
+/// `---`, with the number of the line of the later word. U5 if a write fails. U6 if an allocation
+/// fails.
 pub fn same_input<R: Source, W: Sink>(
     alloc: Global,
     input: &mut Input<R>,

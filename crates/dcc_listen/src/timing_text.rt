@@ -95,7 +95,7 @@ fn add_bits(text: &mut Text, classes: &Classes, bits: &Bits)
     append(text, b"sums station 12000\n");
 }
 
-/// Appends the lines about half-bits of neither a one nor a zero.
+/// Appends the lines about the half-bits that are neither half of a one nor half of a zero.
 fn add_others(text: &mut Text, classes: &Classes)
     requires { array_vec_len text.old + 480 ≤ 2048 }
     ensures { (halves : List ℕ) → AreClasses classes.now halves
@@ -106,7 +106,8 @@ fn add_others(text: &mut Text, classes: &Classes)
     add_tally(text, b"above", &classes.above);
 }
 
-/// Appends the lines with the count, the least, the greatest and the mean of a list of numbers.
+/// Appends the lines with the count, the least number, the greatest number and the mean of a list
+/// of numbers.
 fn add_tally(text: &mut Text, name: &[u8], tally: &Tally)
     requires room { array_vec_len text.old + 160 ≤ 2048 }
     requires short { length name.now ≤ 11 }
@@ -146,7 +147,7 @@ fn add_number_or_none(text: &mut Text, number: Option<u64>)
     }
 }
 
-/// Appends the line of a mean, or of `none` if there is no mean.
+/// Appends the line of a mean. If there is no mean, the line has the word `none`.
 #[tactic(auto, unfolding(crate::specs::TimingText::mean_line))]
 fn add_mean(text: &mut Text, name: &[u8], mean: Option<Mean>)
     requires room { array_vec_len text.old + length name.now + 30 ≤ 2048 }

@@ -12,39 +12,42 @@ use Rattle.dcc_lost.specs.Nearest.{nearest_class}
 use Rattle.dcc_lost.specs.Lost.{frame_lost, longest_frame_at_end}
 use Rattle.dcc_lost.specs.Unused.{unused_at_end, since_refusal, last_outcome}
 
--- true if the nearest class of a half-bit is One, and it is outside the limits 52 to 64 of a decoder
+-- true if a half-bit of `us` microseconds has the nearest class One, and its duration is outside
+-- the limits 52 to 64 of a decoder
 abbrev pub is_off_one : ℕ → Bool
 is_off_one us = (nat_le 26 us && nat_lt us 52) || (nat_lt 64 us && nat_le us 76)
 
--- true if the nearest class of a half-bit is Zero, and it is outside the limits 90 to 10000 of a
--- decoder
+-- true if a half-bit of `us` microseconds has the nearest class Zero, and its duration is outside
+-- the limits 90 to 10000 of a decoder
 abbrev pub is_off_zero : ℕ → Bool
 is_off_zero us = (nat_le 77 us && nat_lt us 90) || (nat_lt 10000 us && nat_le us 20000)
 
--- the number, the least and the greatest of some durations, or none if there are none
+-- the number of some durations, the least and the greatest of them, or `None` if there is no
+-- duration
 unfoldable pub off_limits : List ℕ → Option OffLimits
 off_limits [] = None
 off_limits (us ∷ durations) =
     Some (record { count = length (us ∷ durations); least = fold min us durations; most = fold max us durations })
 
--- the number of half-bits of ones, in their nearest classes, directly before the last `body`
--- half-bits of a list, at most 20
+-- the number of half-bits of ones directly before the last `body` half-bits of a list, at most 20.
+-- A half-bit counts as half of a one if its nearest class is One.
 unfoldable pub ones_before_body : ℕ → List ℕ → ℕ
 ones_before_body body durations =
     ones_at_end (map nearest_class (keep_last 20 (take (length durations - body) durations)))
 
--- The cause of a preamble that is too short: of the `ones` half-bits of ones before a body no outcome
--- uses the last `unused` ones, and these are fewer than 20. The parameter `since` is the number of
--- half-bits after the last outcome if it is a rejection. It counts if an outcome uses one of the
--- `ones` half-bits.
+-- The cause of a preamble that is too short. A body comes after `ones` half-bits of ones, and no
+-- outcome uses the last `unused` half-bits before the body. The preamble is too short if fewer than
+-- 20 half-bits of ones are unused. If the last outcome is a refusal, `since` is the number of
+-- half-bits after it. The cause contains `since` if an outcome uses one of the `ones` half-bits.
 unfoldable pub short_preamble : ℕ → ℕ → Option ℕ → Option ShortPreamble
 short_preamble ones unused since =
     if nat_lt (min ones unused) 20
     then Some (record { ones = min ones unused; since_refusal = if nat_lt unused ones then since else None })
     else None
 
--- The packet with this frame, whose body is the end of a list, with its causes. Half-bits of the
--- body and at most 20 half-bits of ones before it count for the limits.
+-- The lost packet with the frame `frame`, whose body is the end of the list `durations`, and the
+-- causes of the loss. The half-bits of the body are compared with the limits of a decoder, and so
+-- are at most 20 half-bits of ones before the body.
 unfoldable pub with_causes : List ℕ → List ℕ → LostPacket
 with_causes durations frame =
     let body = 18 * length frame + 2 in
@@ -59,16 +62,18 @@ with_causes durations frame =
       zeros = off_limits (filter is_off_zero counted);
     }
 
--- the longest packet whose body is the end of a list, after at least 8 half-bits of ones, with its
--- causes
+-- the longest packet whose body is the end of the list `durations`, after at least 8 half-bits of
+-- ones, with the causes of its loss
 abbrev pub packet_at_end : List ℕ → Option LostPacket
 packet_at_end durations = option_map (with_causes durations) (longest_frame_at_end durations)
 
--- the packet that is lost at the half-bit `us` that follows these half-bits
+-- the packet that is lost at the half-bit `us` that follows `durations`, or `None` if no packet is
+-- lost there
 unfoldable pub packet_lost : List ℕ → ℕ → Option LostPacket
 packet_lost durations us = option_map (with_causes (durations ++ us ∷ [])) (frame_lost durations us)
 
--- the packet that is lost at a place, or nothing
+-- a list with `place` and the packet that is lost at this place, or an empty list if no packet is
+-- lost
 unfoldable pub report_lost : ℕ → Option LostPacket → List (ℕ × LostPacket)
 report_lost place None = []
 report_lost place (Some packet) = (place, packet) ∷ []

@@ -4,8 +4,9 @@ use Rattle.dcc_timing.specs.Numbers.{keep_last}
 use Rattle.dcc_lost.specs.declared.heard.Heard.{Heard}
 use Rattle.dcc_lost.specs.Unused.{Hears, unused_from}
 
--- the state of a framer, the last half-bits, and the numbers of unused half-bits before these are
--- those of this whole list of half-bits
+-- a finder has read the list `durations`: `decoder` is the state of its framer after this list, and
+-- `last` are the last 130 durations. For each of these durations, `free` has the number of
+-- half-bits directly before it that no outcome uses.
 pub record HasRead (decoder : Heard) (last free durations : List ℕ) : Type 0 where
   pub heard : Hears decoder.framer decoder.unused decoder.since_refusal durations
   pub recent : last ≡ keep_last 130 durations

@@ -7,20 +7,22 @@ use Rattle.dcc_wire.specs.declared.seen.Seen.TheVariants.{Nothing, Packet, Refus
 use Rattle.dcc_wire.specs.Outcomes.{ones_left}
 use Rattle.dcc_lost.specs.Nearest.{nearest_class}
 
--- the number of unused half-bits after one more half-bit with this answer of a framer
+-- the number of unused half-bits after one more half-bit, if `unused` is their number before it. A
+-- framer returns the given outcome for this half-bit.
 unfoldable pub unused_next : ℕ → Seen → ℕ
 unused_next unused Nothing = min 20 (unused + 1)
 unused_next unused (Packet bytes) = ones_left (Packet bytes)
 unused_next unused (Refused fault) = ones_left (Refused fault)
 
--- the number of half-bits after the last rejection, after one more half-bit with this answer
+-- the number of half-bits after the last refusal, after one more half-bit. A framer returns the
+-- given outcome for this half-bit. Before it, the number was `since`.
 unfoldable pub since_next : Option ℕ → Seen → Option ℕ
 since_next since Nothing = option_map (λ n. min 255 (n + 1)) since
 since_next since (Packet bytes) = None
 since_next since (Refused fault) = Some 0
 
--- these are 56 half-bits, as many as three bytes and an end bit of a body have, and the first
--- half-bit of each byte is half of a zero in its nearest class
+-- `halves` are 56 half-bits, as many as the body of three bytes has. The half-bits at the places 0,
+-- 18 and 36, each of which begins the zero before a byte, have the nearest class Zero.
 abbrev pub HasStartBits : List ℕ → Type 0
 HasStartBits halves =
     (length halves ≡ 56) × (nearest_class (get_or halves 0 0) ≡ Zero) × (nearest_class (get_or halves 18 0) ≡ Zero)

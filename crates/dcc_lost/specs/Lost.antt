@@ -9,33 +9,34 @@ use Rattle.dcc_wire.specs.Outcomes.{outcome_of}
 use Rattle.dcc_timing.specs.Numbers.{keep_last}
 use Rattle.dcc_lost.specs.Nearest.{nearest_class}
 
--- the frame of an outcome that is a packet of n bytes
+-- the frame of an outcome that is a packet of `n` bytes, or `None` for any other outcome
 unfoldable pub packet_of_length : ℕ → Option (ℕ × Seen) → Option (List ℕ)
 packet_of_length n None = None
 packet_of_length n (Some (count, Packet bytes)) = if length bytes == n then Some bytes else None
 packet_of_length n (Some (count, Refused fault)) = None
 packet_of_length n (Some (count, Nothing)) = None
 
--- the frame of n bytes whose body follows the first 8 half-bits of a list, if these are ones in
--- their nearest classes
+-- the frame of `n` bytes whose body follows the first 8 half-bits of `durations`. The result is
+-- `None` if the nearest class of one of these 8 half-bits is not One.
 unfoldable pub frame_after_ones : ℕ → List ℕ → Option (List ℕ)
 frame_after_ones n durations =
     let halves = map nearest_class durations in
     if nat_le 8 (ones_before halves) then packet_of_length n (outcome_of (drop 8 halves)) else None
 
--- the frame of n bytes whose body is the end of a list of half-bits, after at least 8 half-bits of
--- ones; the body of n bytes has 18 * n + 2 half-bits
+-- the frame of `n` bytes whose body is the end of the list `durations`, after at least 8 half-bits
+-- of ones. The body of `n` bytes has 18 * n + 2 half-bits.
 unfoldable pub frame_at_end : ℕ → List ℕ → Option (List ℕ)
 frame_at_end n durations = frame_after_ones n (keep_last (18 * n + 10) durations)
 
--- the longest frame whose body is the end of a list of half-bits, after at least 8 half-bits of ones
+-- the longest frame whose body is the end of the list `durations`, after at least 8 half-bits of
+-- ones
 unfoldable pub longest_frame_at_end : List ℕ → Option (List ℕ)
 longest_frame_at_end durations =
     option_or (frame_at_end 6 durations)
     (option_or (frame_at_end 5 durations) (option_or (frame_at_end 4 durations) (frame_at_end 3 durations)))
 
--- true if no outcome ends with the half-bit `us` that follows `durations`, and no body is unfinished
--- after it
+-- true if no outcome ends with the half-bit `us` that follows `durations`, and no body is
+-- unfinished after this half-bit
 unfoldable pub is_unheard : List ℕ → ℕ → Bool
 is_unheard durations us =
     (length (seen (durations ++ us ∷ [])) == length (seen durations)) && is_hunting (rest (durations ++ us ∷ []))

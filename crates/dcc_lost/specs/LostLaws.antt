@@ -13,15 +13,16 @@ use Rattle.dcc_wire.specs.Framing.{is_hunting}
 use Rattle.dcc_lost.specs.Unused.{unused_at_end}
 use Rattle.dcc_lost.specs.Causes.{packet_lost, with_causes}
 
--- in their nearest classes, half-bits end with at least 8 half-bits of ones and the body of this
--- frame
+-- the list `durations` ends with at least 8 half-bits of ones and the body of `frame`, if each
+-- half-bit has its nearest class
 pub record EndsWithFrame (durations frame : List ℕ) : Type 0 where
   pub frame_rule : IsFrame frame
   pub before : List Half
   pub halves : map nearest_class durations ≡ before ++ (replicate 8 One ++ body frame)
 
--- This frame is lost at the half-bit `us` that follows `durations`: the half-bits end with it, and
--- with no longer frame. No outcome ends with the half-bit `us`, and no body is unfinished after it.
+-- The frame `frame` is lost at the half-bit `us` that follows `durations`: the half-bits up to `us`
+-- end with this frame, and with no longer frame. No outcome ends with the half-bit `us`, and no
+-- body is unfinished after it.
 pub record IsLost (durations : List ℕ) (us : ℕ) (frame : List ℕ) : Type 0 where
   pub ends : EndsWithFrame (durations ++ us ∷ []) frame
   pub longest : (other : List ℕ) → EndsWithFrame (durations ++ us ∷ []) other → length other ≤ length frame
@@ -49,8 +50,9 @@ LostPacketsHaveCauses =
     (durations : List ℕ) (us : ℕ) (packet : LostPacket) → packet_lost durations us ≡ Some packet → HasCause packet
 
 -- Let an outcome use one of the last 20 half-bits before the body of a lost packet. If no body is
--- unfinished before this body, no outcome ends within it. Otherwise exactly one ends within it, that
--- of the unfinished body. So the outcome that uses the preamble is the last one.
+-- unfinished before the lost body, no outcome ends within the lost body. If a body is unfinished,
+-- only its outcome ends within the lost body. So the outcome that uses the preamble is the last
+-- outcome.
 abbrev pub OneOutcomeUsesThePreamble : Type 0
 OneOutcomeUsesThePreamble =
     (durations : List ℕ) (us : ℕ) (frame before : List ℕ) → IsLost durations us frame

@@ -3,6 +3,6 @@ use Rattle.std.specs.Prelude.{ℕ, List}
 use Rattle.dcc_lost.specs.declared.finder.LostFinder.{LostFinder}
 use Rattle.dcc_lost.specs.Finding.{HasRead}
 
--- the finder has read this whole list of half-bits
+-- `finder` has read all half-bits of the list `durations`
 abbrev pub Follows : LostFinder → List ℕ → Type 0
 Follows finder durations = HasRead finder.heard finder.recent finder.unused durations

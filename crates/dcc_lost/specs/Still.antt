@@ -4,9 +4,9 @@ use Rattle.dcc_timing.specs.Numbers.{keep_last}
 use Rattle.dcc_lost.specs.declared.heard.Heard.{Heard}
 use Rattle.dcc_wire.specs.Framing.{is_hunting}
 
--- The last 130 half-bits have this duration, no outcome uses the last 20 half-bits before each of
--- them, no body is unfinished, and the number of half-bits since a rejection is 255 or none. Then
--- more half-bits of this duration only change the framer.
+-- The last 130 half-bits have the duration `us`, and no outcome uses the last 20 half-bits before
+-- each of them. No body is unfinished. The number of half-bits after a refusal is 255, or there was
+-- no refusal. Then more half-bits of this duration change only the framer.
 pub record IsStill (decoder : Heard) (last free : List ℕ) (us : ℕ) : Type 0 where
   pub recent : keep_last 130 last ≡ replicate 130 us
   pub unused : keep_last 130 free ≡ replicate 130 20

@@ -11,14 +11,14 @@ use Rattle.dcc_wire.specs.Outcomes.{ones_left}
 unfoldable pub last_outcome : List (ℕ × Seen) → Option (ℕ × Seen)
 last_outcome outcomes = fold (λ last outcome. Some outcome) None outcomes
 
--- the number of half-bits that no outcome uses, at the end of a list of `count` half-bits with this
--- last outcome; the two half-bits of an end bit are among them
+-- the number of half-bits at the end of a list of `count` half-bits that no outcome uses, if the
+-- list has the given last outcome. The two half-bits of an end bit count as unused.
 unfoldable pub unused_after : ℕ → Option (ℕ × Seen) → ℕ
 unused_after count None = count
 unused_after count (Some (place, outcome)) = count - (place + 1) + ones_left outcome
 
--- the number of half-bits that follow the last outcome in a list of `count` half-bits, at most 255;
--- none if the last outcome is not a rejection
+-- the number of half-bits that follow the last outcome in a list of `count` half-bits, at most 255.
+-- The result is `None` if the last outcome is not a refusal.
 unfoldable pub since_refusal : ℕ → Option (ℕ × Seen) → Option ℕ
 since_refusal count None = None
 since_refusal count (Some (place, Nothing)) = None
@@ -31,14 +31,15 @@ unfoldable pub unused_at_end : List ℕ → ℕ
 unused_at_end durations =
     let halves = map class_of durations in min 20 (length durations - used_up halves (starts halves))
 
--- for each of the half-bits `durations`, which follow the half-bits `before`, the number of half-bits
--- directly before it that no outcome uses, at most 20
+-- for each of the half-bits `durations`, the number of half-bits directly before it that no outcome
+-- uses, at most 20. The half-bits `before` come before `durations`.
 unfoldable pub unused_from : List ℕ → List ℕ → List ℕ
 unused_from before [] = []
 unused_from before (us ∷ durations) = unused_at_end before ∷ unused_from (before ++ us ∷ []) durations
 
--- the state of a framer, the number of half-bits that no outcome uses, and the number of half-bits
--- after a rejection are those of this list
+-- `framer` is the state of a framer after the list `durations`, and no outcome uses the half-bits
+-- at the end of the list. `unused` is their number, at most 20. If the last outcome is a refusal,
+-- `since` is the number of half-bits after it, at most 255.
 pub record Hears (framer : Rest) (unused : ℕ) (since : Option ℕ) (durations : List ℕ) : Type 0 where
   pub stands : StandsFor framer durations
   pub below : IfSome (last_outcome (seen durations)) (λ outcome. outcome.0 < length durations)

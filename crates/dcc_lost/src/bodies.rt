@@ -9,8 +9,8 @@ ghost use Rattle.dcc_lost.specs.Lost.{frame_after_ones, packet_of_length};
 use crate::nearest::{corrected, is_nearest_zero, ones_before};
 use dcc_wire::{Frame, Framer, Half, Seen};
 
-/// Returns the outcome of the body that begins with the first of these half-bits, in their nearest
-/// classes. `Nothing` if the body is unfinished.
+/// Returns the outcome of the body that begins with the first of `halves`, whose half-bits have
+/// their nearest classes. Returns `Nothing` if the body is unfinished.
 fn outcome_of(halves: &[u16]) -> Seen
     requires some { 0 < length halves.now }
     requires zero { nearest_class (get_or halves.now 0 0) ≡ Half.Zero }
@@ -27,7 +27,8 @@ fn outcome_of(halves: &[u16]) -> Seen
     Seen::Nothing
 }
 
-/// Returns the frame of n bytes whose body follows the first 8 half-bits, if these are ones.
+/// Returns the frame of `n` bytes whose body follows the first 8 half-bits of `halves`. Returns
+/// `None` if one of these 8 half-bits is not half of a one.
 #[inline(always)]
 pub(crate) fn frame_after_ones(halves: &[u16], n: usize) -> Option<Frame>
     ensures { result ≡ frame_after_ones n halves.now }
@@ -42,8 +43,8 @@ pub(crate) fn frame_after_ones(halves: &[u16], n: usize) -> Option<Frame>
     frame_of_body(&halves[8..], n)
 }
 
-/// Returns true if there is a half-bit at this place, counted from 0, and it is half of a zero in its
-/// nearest class.
+/// Returns true if `halves` has a half-bit at `place`, counted from 0, and the nearest class of
+/// this half-bit is Zero.
 #[inline(always)]
 fn is_zero_at(halves: &[u16], place: usize) -> bool
     ensures { IsTrue result ↔ ((place < length halves.now) × (nearest_class (get_or halves.now place 0) ≡ Half.Zero)) }
@@ -51,8 +52,8 @@ fn is_zero_at(halves: &[u16], place: usize) -> bool
     place < halves.len() && is_nearest_zero(halves[place])
 }
 
-/// Returns the frame of n bytes whose body begins with the first of these half-bits, in their
-/// nearest classes.
+/// Returns the frame of `n` bytes whose body begins with the first half-bit of `body`, whose
+/// half-bits have their nearest classes.
 #[inline(never)]
 fn frame_of_body(body: &[u16], n: usize) -> Option<Frame>
     ensures { result ≡ packet_of_length n (outcome_of (map nearest_class body.now)) }
@@ -63,7 +64,8 @@ fn frame_of_body(body: &[u16], n: usize) -> Option<Frame>
     of_length(&outcome_of(body), n)
 }
 
-/// Returns the frame of an outcome that is a packet of n bytes.
+/// Returns the frame of an outcome that is a packet of `n` bytes. Returns `None` for any other
+/// outcome.
 #[tactic(auto, unfolding(crate::specs::Lost::packet_of_length))]
 fn of_length(seen: &Seen, n: usize) -> Option<Frame>
     ensures { result ≡ packet_of_length n (Some (0, seen.now)) }

@@ -1,4 +1,4 @@
-//! Why packets are lost.
+//! The causes for which packets are lost.
 
 ghost use Rattle.std.specs.Prelude.{◌≡◌, ◌≤◌, ◌<◌, ◌+◌, map, length, Some, get_or};
 ghost use Rattle.std.specs.List.{filter};
@@ -14,11 +14,12 @@ use dcc_wire::Frame;
 pub struct LostPacket {
     /// The bytes of the packet.
     pub frame: Frame,
-    /// The preamble if it is too short.
+    /// The preamble of the packet if it is too short, otherwise `None`.
     pub preamble: Option<ShortPreamble>,
-    /// The half-bits of ones outside the limits 52 to 64 microseconds.
+    /// The half-bits of ones outside the limits 52 to 64 microseconds, or `None` if there are none.
     pub ones: Option<OffLimits>,
-    /// The half-bits of zeros outside the limits 90 to 10000 microseconds.
+    /// The half-bits of zeros outside the limits 90 to 10000 microseconds, or `None` if there are
+    /// none.
     pub zeros: Option<OffLimits>,
 }
 
@@ -27,8 +28,8 @@ pub struct LostPacket {
 pub struct ShortPreamble {
     /// The number of half-bits of ones directly before the body that no outcome uses, fewer than 20.
     pub ones: u8,
-    /// The number of half-bits from the end of the rejection to the end of the packet, if a
-    /// rejection uses the half-bit of a one before those.
+    /// The number of half-bits from the end of the last refusal to the end of the packet. It is
+    /// `None` unless this refusal uses the half-bit of a one before the unused half-bits of ones.
     pub since_refusal: Option<u8>,
 }
 
@@ -37,28 +38,30 @@ pub struct ShortPreamble {
 pub struct OffLimits {
     /// The number of half-bits.
     pub count: u32,
-    /// The shortest of them, in microseconds.
+    /// The shortest duration of these half-bits, in microseconds.
     pub least: u16,
-    /// The longest of them, in microseconds.
+    /// The longest duration of these half-bits, in microseconds.
     pub most: u16,
 }
 
-/// Returns true if a half-bit is half of a one in its nearest class, outside the limits of a decoder.
+/// Returns true if a half-bit of `us` microseconds has the nearest class One and is outside the
+/// limits of a decoder for half of a one.
 fn is_off_one(us: u16) -> bool
     ensures { result ≡ is_off_one us }
 {
     matches!(us, 26..=51 | 65..=76)
 }
 
-/// Returns true if a half-bit is half of a zero in its nearest class, outside the limits of a
-/// decoder.
+/// Returns true if a half-bit of `us` microseconds has the nearest class Zero and is outside the
+/// limits of a decoder for half of a zero.
 fn is_off_zero(us: u16) -> bool
     ensures { result ≡ is_off_zero us }
 {
     matches!(us, 77..=89 | 10001..=20000)
 }
 
-/// Returns the number of half-bits of ones at the end of a list, in their nearest classes.
+/// Returns the number of half-bits of ones at the end of a list. A half-bit counts as half of a one
+/// if its nearest class is One.
 pub(crate) fn ones_at_end(halves: &[u16]) -> usize
     ensures ones { result ≡ ones_at_end (map nearest_class halves.now) }
     ensures few { result ≤ length halves.now }
@@ -75,8 +78,8 @@ pub(crate) fn ones_at_end(halves: &[u16]) -> usize
 
 ghost use Rattle.std.specs.Prelude.{ℕ, Bool, List, ◌++◌, ◌∷◌, [], IfSome};
 
-/// Returns the figures of some half-bits with one more half-bit of this many microseconds, if it
-/// counts.
+/// Adds a half-bit of `us` microseconds to the figures `off` of some half-bits, if `counts` is
+/// true. Returns the new figures.
 fn noted(off: Option<OffLimits>, us: u16, counts: bool) -> Option<OffLimits>
     requires { IfSome off (λ figures. figures.count ≤ 1000) }
     ensures { (has_kind : ℕ → Bool) (durations : List ℕ) → off ≡ off_limits (filter has_kind durations)
@@ -99,8 +102,8 @@ fn noted(off: Option<OffLimits>, us: u16, counts: bool) -> Option<OffLimits>
     })
 }
 
-/// Returns the figures of the half-bits of ones and of zeros that are outside the limits of a
-/// decoder.
+/// Returns the figures of the half-bits of ones, and the figures of the half-bits of zeros. The
+/// figures count only half-bits outside the limits of a decoder.
 pub(crate) fn off_limits(halves: &[u16]) -> (Option<OffLimits>, Option<OffLimits>)
     requires { length halves.now ≤ 1000 }
     ensures ones { result.0 ≡ off_limits (filter is_off_one halves.now) }
@@ -117,8 +120,9 @@ pub(crate) fn off_limits(halves: &[u16]) -> (Option<OffLimits>, Option<OffLimits
 
 ghost use Rattle.std.specs.Prelude.{Option};
 
-/// Returns the preamble with so many half-bits of ones, of which so many are unused, if it is too
-/// short. The parameter `since` is the number of half-bits since a rejection.
+/// Returns the preamble of a body if it is too short, otherwise `None`. The body comes after `ones`
+/// half-bits of ones, and no outcome uses the last `unused` half-bits before it. The parameter
+/// `since` is the number of half-bits after the last outcome, if this outcome is a refusal.
 #[tactic(auto, unfolding(crate::specs::Causes::short_preamble))]
 pub(crate) fn short_preamble(ones: usize, unused: u16, since: Option<u8>) -> Option<ShortPreamble>
     ensures { result ≡ short_preamble ones unused since }
@@ -137,7 +141,7 @@ pub(crate) fn short_preamble(ones: usize, unused: u16, since: Option<u8>) -> Opt
     })
 }
 
-/// Returns the first number, or 0 if there are none.
+/// Returns the first of `numbers`, or 0 if the list is empty.
 pub(crate) fn first_or_zero(numbers: &[u16]) -> u16
     ensures { result ≡ get_or numbers.now 0 0 }
 {

@@ -15,7 +15,8 @@ use dcc_wire::Frame;
 pub struct LostFinder {
     heard: Heard,
     recent: LastNumbers,
-    /// For each of these half-bits, the number of half-bits directly before it that no outcome uses.
+    /// For each half-bit of `recent`, the number of half-bits directly before it that no outcome
+    /// uses.
     unused: LastNumbers,
     ghost history: { ∥ ((durations : List ℕ) × HasRead heard recent unused durations) ∥₁ },
 }
@@ -26,7 +27,7 @@ pub struct LostRun {
     /// The packet that is lost in the run.
     pub lost: Option<LostPacket>,
     /// The number of half-bits that the finder took: up to the last half-bit of the lost packet, or
-    /// all of them.
+    /// all half-bits of the run.
     pub at: u32,
 }
 
@@ -39,7 +40,7 @@ impl LostFinder {
     ghost use Rattle.dcc_lost.specs.Reads.{Follows};
     ghost use Rattle.dcc_lost.specs.Still.{IsStill};
 
-    /// Creates a finder without half-bits.
+    /// Creates a finder that has read no half-bit.
     pub fn new() -> LostFinder
         ensures { Follows result [] }
     {
@@ -50,7 +51,8 @@ impl LostFinder {
         }
     }
 
-    /// Takes a half-bit of this many microseconds. Returns the packet that is lost at this half-bit.
+    /// Takes a half-bit of `us` microseconds. Returns the packet that is lost at this half-bit, or
+    /// `None`.
     #[inline(always)]
     pub fn push(&mut self, us: u16) -> Option<LostPacket>
         // The finder has read at least one list of half-bits.
@@ -71,8 +73,9 @@ impl LostFinder {
         self.packet_at_end()
     }
 
-    /// Takes a half-bit of this many microseconds. Returns false if no packet is lost at this half-bit.
-    /// If it returns true, the result of [`packet_at_end`](Self::packet_at_end) is lost at this half-bit.
+    /// Takes a half-bit of `us` microseconds. Returns false if no packet is lost at this half-bit.
+    /// If `take` returns true, the result of [`packet_at_end`](Self::packet_at_end) is lost at this
+    /// half-bit.
     #[inline(always)]
     pub fn take(&mut self, us: u16) -> bool
         // The finder has read at least one list of half-bits.
@@ -99,8 +102,8 @@ impl LostFinder {
         self.can_end_packet()
     }
 
-    /// Takes n half-bits of this many microseconds, up to the first at which a packet is lost, as
-    /// calls of [`push`](Self::push) do.
+    /// Takes `n` half-bits of `us` microseconds, as `n` calls of [`push`](Self::push) do. The
+    /// function stops after the first half-bit at which a packet is lost.
     pub fn push_run(&mut self, us: u16, n: u32) -> LostRun
         // The finder has read at least one list of half-bits.
         ensures history { ∥ ((durations : List ℕ) × Follows self.old durations) ∥₁ }
@@ -129,7 +132,7 @@ impl LostFinder {
         LostRun { lost: None, at }
     }
 
-    /// Returns true if more half-bits of this many microseconds only change the framer.
+    /// Returns true if more half-bits of `us` microseconds change only the framer.
     fn is_still(&self, us: u16) -> bool
         ensures { IsTrue result ↔ IsStill self.now.heard self.now.recent self.now.unused us }
     {
@@ -138,7 +141,7 @@ impl LostFinder {
             && self.heard.is_still()
     }
 
-    /// Takes n half-bits of this many microseconds that only change the framer.
+    /// Takes `n` half-bits of `us` microseconds, which change only the framer.
     fn skip(&mut self, us: u16, n: u32)
         requires { IsStill self.old.heard self.old.recent self.old.unused us }
         ensures reads { (durations : List ℕ) → Follows self.old durations
@@ -149,7 +152,7 @@ impl LostFinder {
         self.heard.skip(us, n);
     }
 
-    /// Returns false if no packet is lost at the end of the list.
+    /// Returns false if no packet is lost at the last half-bit that the finder has read.
     #[inline(always)]
     fn can_end_packet(&self) -> bool
         ensures no { (durations : List ℕ) → Follows self.now durations → result ≡ false
@@ -162,8 +165,9 @@ impl LostFinder {
         has_start_bits(self.recent.last(56))
     }
 
-    /// Returns the longest packet whose body is the end of the list, after at least 8 half-bits of ones,
-    /// with the causes for which it is lost if no decoder hears it.
+    /// Returns the longest packet whose body ends with the last half-bit that the finder has read,
+    /// after at least 8 half-bits of ones. The packet has the causes for which it is lost if no
+    /// decoder hears it.
     #[inline(never)]
     pub fn packet_at_end(&self) -> Option<LostPacket>
         ensures { (durations : List ℕ) → Follows self.now durations → result ≡ packet_at_end durations }
@@ -174,7 +178,8 @@ impl LostFinder {
         }
     }
 
-    /// Returns the packet with this frame, which is lost at the end of the list, with its causes.
+    /// Returns the packet with the frame `frame` and with its causes. The packet is lost at the
+    /// last half-bit that the finder has read.
     fn with_causes(&self, frame: Frame) -> LostPacket
         ensures { (durations : List ℕ) → Follows self.now durations
             → result ≡ with_causes durations frame }
@@ -197,8 +202,9 @@ ghost use Rattle.std.specs.Prelude.{◌↔◌, IsTrue, EachIndex, slice_index, r
 ghost use Rattle.dcc_lost.specs.Inner.{HasStartBits};
 ghost use Rattle.dcc_lost.specs.Lost.{frame_at_end, longest_frame_at_end};
 
-/// Returns true if the last 56 half-bits can be the last three bytes of a body and its end bit: the
-/// first half-bit of each byte, that of a start bit, is a zero in its nearest class.
+/// Returns true if the 56 half-bits `halves` can be the last three bytes of a body and its end bit.
+/// A zero comes before each byte, so the half-bits at the places 0, 18 and 36 must have the nearest
+/// class Zero.
 #[inline(always)]
 fn has_start_bits(halves: &[u16]) -> bool
     ensures { IsTrue result ↔ HasStartBits halves.now }
@@ -209,22 +215,21 @@ fn has_start_bits(halves: &[u16]) -> bool
         && is_nearest_zero(halves[36])
 }
 
-/// Returns true if there are 130 numbers, and each is this number.
+/// Returns true if `numbers` has 130 elements, and each of them equals `number`.
 fn are_all(numbers: &[u16], number: u16) -> bool
     ensures { IsTrue result ↔ (numbers.now ≡ replicate 130 number) }
 {
     numbers.len() == 130 && each_is(numbers, number)
 }
 
-/// Returns true if each of the numbers is this number.
+/// Returns true if each element of `numbers` equals `number`.
 fn each_is(numbers: &[u16], number: u16) -> bool
     ensures { IsTrue result ↔ EachIndex numbers.now (λ k. slice_index numbers.now k ≡ number) }
 {
     numbers.iter().all(|x| *x == number)
 }
 
-/// Returns the longest frame whose body is the end of the last half-bits, after at least 8 half-bits
-/// of ones.
+/// Returns the longest frame whose body is the end of `recent`, after at least 8 half-bits of ones.
 #[tactic(auto, unfolding(crate::specs::Lost::longest_frame_at_end))]
 fn longest_frame_at_end(recent: &LastNumbers) -> Option<Frame>
     ensures { result ≡ longest_frame_at_end recent.now }
@@ -241,8 +246,8 @@ fn longest_frame_at_end(recent: &LastNumbers) -> Option<Frame>
     frame_at_end(recent, 3)
 }
 
-/// Returns the frame of n bytes whose body is the end of the last half-bits, after at least 8
-/// half-bits of ones.
+/// Returns the frame of `n` bytes whose body is the end of `recent`, after at least 8 half-bits of
+/// ones.
 #[tactic(auto, unfolding(crate::specs::Lost::frame_at_end))]
 #[inline(always)]
 fn frame_at_end(recent: &LastNumbers, n: usize) -> Option<Frame>

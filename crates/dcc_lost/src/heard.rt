@@ -5,13 +5,15 @@ ghost use Rattle.dcc_wire.specs.Framing.{is_hunting};
 
 use dcc_wire::{Fault, Framer, Seen};
 
-/// A framer, and what its last outcome left.
+/// A framer, and the numbers of half-bits that follow its last outcome.
 #[derive(Drop)]
 pub struct Heard {
     framer: Framer,
-    /// The number of half-bits that no outcome uses, at most 20.
+    /// The number of half-bits at the end of the pushed half-bits that no outcome uses, at most 20.
+    /// The two half-bits of an end bit count as unused.
     unused: u8,
-    /// The number of half-bits after the last outcome, at most 255. None if it is not a rejection.
+    /// The number of half-bits after the last outcome, at most 255. The field is `None` if this
+    /// outcome is not a refusal.
     since_refusal: Option<u8>,
     ghost few: { unused ≤ 20 },
 }
@@ -25,7 +27,7 @@ impl Heard {
     ghost use Rattle.dcc_wire.specs.Framing.{is_hunting};
     ghost use Rattle.dcc_lost.specs.Inner.{unused_next, since_next};
 
-    /// Creates the state without half-bits.
+    /// Creates the state before the first half-bit.
     pub(crate) fn new() -> Heard
         ensures { Hears result.framer result.unused result.since_refusal [] }
     {
@@ -36,7 +38,7 @@ impl Heard {
         }
     }
 
-    /// Takes a half-bit of this many microseconds. Returns the outcome that ends with this half-bit.
+    /// Takes a half-bit of `us` microseconds. Returns the outcome that ends with this half-bit.
     #[inline(always)]
     pub(crate) fn push(&mut self, us: u16) -> Seen
         ensures hears { (durations : List ℕ) → Hears self.old.framer self.old.unused self.old.since_refusal durations
@@ -49,7 +51,7 @@ impl Heard {
         seen
     }
 
-    /// Counts one more half-bit with this outcome.
+    /// Counts one more half-bit, for which the framer returned `seen`.
     #[inline(always)]
     #[tactic(auto, unfolding(crate::specs::Inner::unused_next, crate::specs::Inner::since_next))]
     fn count(&mut self, seen: &Seen)
@@ -72,8 +74,8 @@ impl Heard {
         self.framer.is_hunting()
     }
 
-    /// Returns true if no body is unfinished, no outcome uses the last 20 half-bits, and the number of
-    /// half-bits since a rejection is 255 or none.
+    /// Returns true if no body is unfinished and no outcome uses the last 20 half-bits. The number
+    /// of half-bits after a refusal must also be 255 or `None`.
     pub(crate) fn is_still(&self) -> bool
         ensures { IsTrue result ↔ ((self.now.unused ≡ 20) × (is_hunting self.now.framer ≡ true)
             × IfSome self.now.since_refusal (λ count. count ≡ 255)) }
@@ -85,7 +87,7 @@ impl Heard {
         self.unused == 20 && is_late && self.is_hunting()
     }
 
-    /// Takes n half-bits of this many microseconds that begin no body.
+    /// Takes `n` half-bits of `us` microseconds, which begin no body.
     pub(crate) fn skip(&mut self, us: u16, n: u32)
         requires unused { self.old.unused ≡ 20 }
         requires since { IfSome self.old.since_refusal (λ count. count ≡ 255) }
@@ -97,7 +99,8 @@ impl Heard {
         let _ = self.framer.push_run(us, n);
     }
 
-    /// Returns the number of half-bits at the end of the list that no outcome uses, at most 20.
+    /// Returns the number of half-bits at the end of the pushed half-bits that no outcome uses, at
+    /// most 20.
     pub(crate) fn unused(&self) -> u8
         ensures unused { (durations : List ℕ) → Hears self.now.framer self.now.unused self.now.since_refusal durations
             → result ≡ unused_at_end durations }
@@ -106,8 +109,8 @@ impl Heard {
         if self.is_hunting() { self.unused } else { 0 }
     }
 
-    /// Returns the number of half-bits after the last outcome, at most 255. None if it is not a
-    /// rejection.
+    /// Returns the number of half-bits after the last outcome, at most 255. Returns `None` if this
+    /// outcome is not a refusal.
     pub(crate) fn since_refusal(&self) -> Option<u8>
         ensures { result ≡ self.now.since_refusal }
     {
@@ -117,7 +120,8 @@ impl Heard {
 
 ghost use Rattle.dcc_lost.specs.Inner.{unused_next, since_next};
 
-/// Returns the number of half-bits that no outcome uses after one more half-bit with this outcome.
+/// Returns the number of unused half-bits after one more half-bit, for which the framer returned
+/// `seen`. Before this half-bit the number was `unused`.
 #[tactic(auto, unfolding(crate::specs::Inner::unused_next, dcc_wire::specs::Outcomes::ones_left))]
 fn unused_next(unused: u8, seen: &Seen) -> u8
     requires { unused ≤ 20 }
@@ -131,8 +135,8 @@ fn unused_next(unused: u8, seen: &Seen) -> u8
     }
 }
 
-/// Returns the number of half-bits after the last rejection after one more half-bit with this
-/// outcome.
+/// Returns the number of half-bits after the last refusal, after one more half-bit, for which the
+/// framer returned `seen`. Before this half-bit the number was `since`.
 #[tactic(auto, unfolding(crate::specs::Inner::since_next))]
 fn since_next(since: Option<u8>, seen: &Seen) -> Option<u8>
     ensures { result ≡ since_next since seen.now }
@@ -147,7 +151,7 @@ fn since_next(since: Option<u8>, seen: &Seen) -> Option<u8>
 ghost use Rattle.std.specs.Prelude.{◌+◌, min};
 ghost use Rattle.std.specs.Option.{option_map};
 
-/// Returns the next number, at most 255.
+/// Returns the number after `since`, at most 255, or `None` if `since` is `None`.
 fn next_of(since: Option<u8>) -> Option<u8>
     ensures { result ≡ option_map (λ n. min 255 (n + 1)) since }
 {

@@ -3,9 +3,10 @@
 ghost use Rattle.dcc_lost.specs.LostLaws.{LostPacketsAreLost, LostPacketsHaveCauses, NoLostPacketIsSeen};
 ghost use Rattle.dcc_lost.specs.LostLaws.{OneOutcomeUsesThePreamble};
 
-/// Theorem: `packet_lost` returns a packet if and only if this packet is lost. Then, in their nearest
-/// classes, the half-bits end with at least 8 half-bits of ones and the body of the packet, and with
-/// the body of no longer packet. The framer shows no outcome and has no unfinished body.
+/// Theorem: `packet_lost` is a packet if and only if this packet is lost. Then the half-bits, in
+/// their nearest classes, end with at least 8 half-bits of ones and the body of this packet. They
+/// end with the body of no longer packet. The framer returns no outcome for the last half-bit, and
+/// has no unfinished body.
 pub fn lost_packets_are_the_definition()
     ensures { LostPacketsAreLost }
 {}
@@ -21,8 +22,8 @@ pub fn lost_packets_have_causes()
     ensures { LostPacketsHaveCauses }
 {}
 
-/// Theorem: if an outcome uses one of the last 20 half-bits before the body of a lost packet, it is
-/// the last outcome before the end of the packet.
+/// Theorem: let an outcome use one of the last 20 half-bits before the body of a lost packet. This
+/// outcome is then the last outcome before the end of the packet.
 pub fn one_outcome_uses_the_preamble()
     ensures { OneOutcomeUsesThePreamble }
 {}

@@ -7,7 +7,7 @@ ghost use Rattle.dcc_lost.specs.Nearest.{nearest_class};
 
 use dcc_wire::Half;
 
-/// Returns true if a half-bit is half of a one, in its nearest class.
+/// Returns true if the nearest class of a half-bit of `us` microseconds is One.
 #[inline(always)]
 pub(crate) fn is_nearest_one(us: u16) -> bool
     ensures { IsTrue result ↔ (nearest_class us ≡ Half.One) }
@@ -15,7 +15,7 @@ pub(crate) fn is_nearest_one(us: u16) -> bool
     (26..=76).contains(&us)
 }
 
-/// Returns true if a half-bit is half of a zero, in its nearest class.
+/// Returns true if the nearest class of a half-bit of `us` microseconds is Zero.
 #[inline(always)]
 pub(crate) fn is_nearest_zero(us: u16) -> bool
     ensures { IsTrue result ↔ (nearest_class us ≡ Half.Zero) }
@@ -23,7 +23,7 @@ pub(crate) fn is_nearest_zero(us: u16) -> bool
     (77..=20000).contains(&us)
 }
 
-/// Returns a duration whose class is the nearest class of a half-bit.
+/// Returns a duration whose class is the nearest class of a half-bit of `us` microseconds.
 #[inline(always)]
 pub(crate) fn corrected(us: u16) -> u16
     ensures { class_of result ≡ nearest_class us }
@@ -35,7 +35,8 @@ pub(crate) fn corrected(us: u16) -> u16
     }
 }
 
-/// Returns the number of half-bits of ones at the beginning of a list, in their nearest classes.
+/// Returns the number of half-bits of ones at the beginning of a list. A half-bit counts as half of
+/// a one if its nearest class is One.
 #[inline(always)]
 pub(crate) fn ones_before(halves: &[u16]) -> usize
     ensures ones { result ≡ ones_before (map nearest_class halves.now) }

@@ -1,11 +1,11 @@
-//! Worked examples, runs compared with their single half-bits, and long runs.
+//! Tests of worked examples, of runs against their single half-bits, and of long runs.
 
 use crate::{LostFinder, LostPacket, OffLimits, ShortPreamble};
 use dcc_wire::Frame;
 use std::process::Abort;
 use std::test::Fail;
 
-/// A duration, and the number of half-bits with it.
+/// A duration, and the number of half-bits with this duration.
 type Run = (u16, u32);
 
 /// The runs of the body of `03 62 61`, with ones of 58 and zeros of 100 microseconds.

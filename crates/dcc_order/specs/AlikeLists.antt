@@ -15,8 +15,8 @@ begins_with_two [] p = false
 begins_with_two (q ∷ []) p = false
 begins_with_two (q ∷ r ∷ rest) p = same p q && same p r
 
--- the list `packets` without each own write that two equal packets follow directly. So of
--- successive equal own writes only two stay.
+-- the list `packets` without each own write that two equal packets follow directly. So only the
+-- last two of successive equal own writes stay.
 abbrev pub without_third_copies : List Packet → List Packet
 without_third_copies [] = []
 without_third_copies (p ∷ later) =

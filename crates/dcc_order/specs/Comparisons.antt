@@ -14,7 +14,7 @@ use Rattle.dcc_order.specs.AlikeLists.{Cut, LastBlock, Block, cut_for, SameMembe
 use Rattle.dcc_order.specs.Verdicts.{IsVerdictFrom}
 use Rattle.dcc_order.specs.GivenLists.{Lists, IsVerdictOfAll}
 
--- the record of a list of which no packet was heard yet
+-- the record of a list before the first heard packet
 abbrev pub nothing_heard : LastHeard
 nothing_heard = record { packet = None; is_second = false }
 
@@ -23,8 +23,8 @@ nothing_heard = record { packet = None; is_second = false }
 abbrev pub heard_next : LastHeard → Packet → LastHeard
 heard_next before p = record { packet = Some p; is_second = is_repeated before.packet p }
 
--- the record of the list `packets`: its last packet, and true if the packet before that packet
--- equals it
+-- the record of the list `packets`: its last packet, and true if the packet before the last packet
+-- equals the last packet
 abbrev pub last_heard : List Packet → LastHeard
 last_heard packets = fold heard_next nothing_heard packets
 
@@ -58,8 +58,8 @@ BlocksDiffer k left right verdict =
     (¬ SameMembers left right × (verdict ≡ Members k))
     ⊎ (SameMembers left right × ¬ SameOrder left right × (verdict ≡ Order k))
 
--- the cut lists `x` and `y` begin with `k` alike blocks, and equal writes end these blocks. The cut
--- lists `u` and `w` follow them.
+-- the cut lists `x` and `y` begin with `k` alike blocks, and equal writes end these blocks. After
+-- these blocks, the cut lists `u` and `w` follow.
 abbrev pub AlikeUpTo : ℕ → Cut → Cut → Cut → Cut → Type 0
 AlikeUpTo zero x y u w = (x ≡ u) × (y ≡ w)
 AlikeUpTo (suc k) (Block left write x) (Block right other y) u w =
@@ -67,8 +67,8 @@ AlikeUpTo (suc k) (Block left write x) (Block right other y) u w =
 AlikeUpTo (suc k) (LastBlock left) y u w = ⊥
 AlikeUpTo (suc k) (Block left write x) (LastBlock right) u w = ⊥
 
--- the comparison `c` stores, for each of the two `lists`, the last packet that its decoder heard.
--- The two blocks that it stores are not longer than the lists.
+-- the comparison `c` stores the last packet of each of the two `lists` that its decoder heard. The
+-- two blocks that `c` stores are not longer than the lists.
 pub record GoesOn (c : Comparison) (lists : Lists) : Type 0 where
   pub left_heard : c.left_heard ≡ last_heard (heard c.who lists.left)
   pub right_heard : c.right_heard ≡ last_heard (heard c.who lists.right)
@@ -95,8 +95,8 @@ pub record WantsRight (c : Comparison) (lists : Lists) : Type 0 where
   pub up_to : AlikeUpTo c.block (cut_for c.who lists.left) (cut_for c.who lists.right)
       (open_cut c.held.first c.left_end) (LastBlock c.held.second)
 
--- `verdict` is the verdict on every two lists that begin with `lists`. If it is `Alike`, both lists
--- have ended.
+-- `verdict` is the verdict on every two lists that begin with the prefixes in `lists`. If the
+-- verdict is `Alike`, both lists have ended.
 pub record Settled (c : Comparison) (lists : Lists) (verdict : Verdict) : Type 0 where
   pub of_all : IsVerdictOfAll c.who lists verdict
   pub both_ended : verdict ≡ Alike → (lists.left_ended ≡ true) × (lists.right_ended ≡ true)

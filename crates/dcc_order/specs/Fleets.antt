@@ -1,5 +1,5 @@
 -- Fleets that hear half-bits. The functions `who` and `registers` give the identity and the
--- registers of a decoder. So a fleet can have decoders of any type.
+-- registers of a decoder, so that a fleet can have decoders of any type.
 use Rattle.std.specs.Prelude.{ℕ, List, ◌++◌}
 use Rattle.std.specs.List.{AllZip}
 use Rattle.dcc_wire.specs.declared.seen.Seen.{Seen}
@@ -15,12 +15,11 @@ abbrev pub EachHears : {A : Type 0} → (A → Who) → (A → RegisterMap) → 
 EachHears who registers packets old new =
     AllZip (λ one now. HasHeard packets (who one) (registers one) (who now) (registers now)) old new
 
--- if the outcome `shown` is a packet, each decoder of the list `old` hears it and becomes the
--- decoder at the same place of `new`. Otherwise `new` equals `old`.
+-- if the outcome `shown` is a packet, each decoder of the list `old` hears this packet and becomes
+-- the decoder at the same place of `new`. Otherwise `new` equals `old`.
 pub record EachHearsSeen {A : Type 0} (who : A → Who) (registers : A → RegisterMap) (shown : Seen) (old new : List A)
     : Type 0 where
-  -- there is a list `packets` of the packets of `shown`: one packet, or an empty list if `shown` is
-  -- no packet
+  -- there is a list `packets` with the packet of `shown`, or an empty list if `shown` is no packet
   pub spelled : (packets : List Packet) × AreSpelled packets (frames_of shown)
   -- each decoder hears the packets of this list
   pub each : (packets : List Packet) → AreSpelled packets (frames_of shown) → EachHears who registers packets old new
@@ -31,8 +30,8 @@ abbrev pub EachHearsHalves : {A : Type 0} → (A → Who) → (A → RegisterMap
 EachHearsHalves who registers halves old new =
     AllZip (λ one now. HasHeardHalves halves (who one) (registers one) (who now) (registers now)) old new
 
--- each decoder of `members` has heard `halves`, and before them it had the identity and the
--- registers at the same place of the list `starts`
+-- each decoder of `members` has heard `halves`. Before these half-bits it had the identity and the
+-- registers at the same place of the list `starts`.
 abbrev pub HaveHeardSince : {A : Type 0} → (A → Who) → (A → RegisterMap) → List (Who × RegisterMap) → List ℕ → List A
     → Type 0
 HaveHeardSince who registers starts halves members =

@@ -13,8 +13,8 @@ abbrev pub frame_number : List ℕ → ℕ
 frame_number [] = 1
 frame_number (byte ∷ bytes) = byte + 256 * frame_number bytes
 
--- `found` returns, for the number of the frame of each packet, the place of this packet in
--- `members`, or `None` if `members` does not contain the packet
+-- for each packet, `found` maps the number of its frame to the place of the packet in `members`.
+-- The result of `found` is `None` if `members` does not contain the packet.
 abbrev pub IsIndex : (ℕ → Option ℕ) → List Packet → Type 0
 IsIndex found members =
     (p : Packet) → IsFrame (spelling p) → found (frame_number (spelling p)) ≡ position (same p) members

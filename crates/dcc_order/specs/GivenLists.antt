@@ -1,5 +1,4 @@
--- Two lists of packets that a comparer gets packet by packet, and definitions about lists whose
--- ends it has not got.
+-- Two lists of packets that a comparer gets packet by packet, also before it has got their ends.
 use Rattle.std.specs.Prelude.{ℕ, zero, suc, ◌+◌, ◌≡◌, min, Bool, true, false, List, [], ◌∷◌, ◌++◌, Option, Some, None}
 use Rattle.std.specs.Prelude.{length}
 use Rattle.dcc_packet.specs.declared.packet.Packet.{Packet}
@@ -10,8 +9,8 @@ use Rattle.dcc_order.specs.declared.wants.Wants.TheVariants.{Left, Right, Done}
 use Rattle.dcc_order.specs.AlikeLists.{Cut, LastBlock, Block, cut_for}
 use Rattle.dcc_order.specs.Verdicts.{IsVerdict}
 
--- the packets of two lists that a comparer has got: a prefix of each list, and true for each list
--- whose end it has got
+-- the parts of two lists that a comparer has got: a prefix of each list, and true for each list
+-- whose end the comparer has got
 pub record Lists : Type 0 where
   pub left : List Packet
   pub left_ended : Bool

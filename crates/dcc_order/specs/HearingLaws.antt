@@ -29,8 +29,8 @@ pub record AlikeHalves (who : Who) (left right : List ℕ) : Type 0 where
   pub others_seen : ArePackets others right
   pub alike : AlikeFor who packets others
 
--- if the packets in `left` and the packets in `right` are alike for decoder `who`, it has equal
--- registers after both, from all registers `start`
+-- let the packets in `left` and the packets in `right` be alike for decoder `who`. For any
+-- registers `start`, the decoder then has equal registers after `left` and after `right`.
 abbrev pub AlikeHalvesLeaveTheSame : Type 0
 AlikeHalvesLeaveTheSame = (who : Who) (start : RegisterMap) (left right : List ℕ) → AlikeHalves who left right →
     (one other : Who) (now after : RegisterMap) → HasHeardHalves left who start one now

@@ -1,4 +1,4 @@
--- Two lists whose packets a comparer gets in the order in which it waits for them.
+-- Two lists of packets, of which a comparer always gets the packet that it waits for.
 use Rattle.std.specs.Prelude.{ℕ, ◌+◌, ◌-◌, ◌*◌, ◌^◌, ◌≡◌, ◌≤◌, ◌<◌, Bool, List, ◌++◌, Option, IfSome, length, take}
 use Rattle.std.specs.Prelude.{slice_get}
 use Rattle.dcc_packet.specs.declared.packet.Packet.{Packet}
@@ -11,7 +11,7 @@ use Rattle.dcc_order.specs.Comparisons.{ComparerRepresents}
 use Rattle.dcc_order.specs.GivenLists.{Lists, no_lists, with_item, MayFollow}
 use Rattle.dcc_order.specs.Verdicts.{IsVerdict}
 
--- `given` is a prefix of the list `whole`; it is the whole list if `ended` is true
+-- `given` is a prefix of the list `whole`. If `ended` is true, `given` is the whole list.
 pub record IsGivenPrefix (whole given : List Packet) (ended : Bool) : Type 0 where
   pub rest : List Packet
   pub parts : whole ≡ given ++ rest
@@ -30,8 +30,8 @@ pub record WasGivenFronts (who : Who) (left right : List Packet) (c : Comparison
 unfoldable pub IsInStep : Who → List Packet → List Packet → Comparison → Type 0
 IsInStep who left right c = WasGivenFronts who left right c
 
--- a number that falls when a comparer gets the end of a list. It is 2 if the comparer waits for a
--- packet of the left list, 1 if it waits for a packet of the right list, and 0 if it has a verdict.
+-- a number that falls when a comparer gets the end of a list. The number is 2 if the comparer waits
+-- for the left list, 1 if the comparer waits for the right list, and 0 if it has a verdict.
 abbrev pub ends_wanted : Wants → ℕ
 ends_wanted Left = 2
 ends_wanted Right = 1

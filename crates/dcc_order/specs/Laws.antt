@@ -11,7 +11,7 @@ use Rattle.dcc_order.specs.declared.verdict.Verdict.TheVariants.{Alike}
 use Rattle.dcc_order.specs.Verdicts.{IsVerdict}
 use Rattle.dcc_order.specs.AlikeLists.{Cut, LastBlock, Block, cut_for, AlikeFor}
 
--- for all registers at the start, decoder `who` has equal registers after the list `left` and after
+-- for any registers at the start, decoder `who` has equal registers after the list `left` and after
 -- the list `right`
 abbrev pub LeaveTheSame : Who → List Packet → List Packet → Type 0
 LeaveTheSame who left right =
@@ -22,8 +22,8 @@ LeaveTheSame who left right =
 abbrev pub AlikeListsLeaveTheSame : Type 0
 AlikeListsLeaveTheSame = (who : Who) (left right : List Packet) → AlikeFor who left right → LeaveTheSame who left right
 
--- the packets of a cut list from its start to the end of block `k`, and the own writes between
--- these blocks. If there is no block `k`, the result is all packets of the list.
+-- the packets of a cut list from its start to the end of block `k`, with the own writes between the
+-- blocks. If there is no block `k`, the result is all packets of the list.
 abbrev pub through_block : ℕ → Cut → List Packet
 through_block k (LastBlock block) = block
 through_block zero (Block block write rest) = block

@@ -6,7 +6,7 @@ use Rattle.dcc_packet.specs.SamePacket.{same}
 use Rattle.dcc_order.specs.AlikeLists.{SameMembers}
 
 -- the number of packet `p` in the list `members` of different packets: its place, or the length of
--- the list if `p` is not in it
+-- the list if `members` does not contain `p`
 abbrev pub member_number : List Packet → Packet → ℕ
 member_number members p = position_or_len (same p) members
 

@@ -24,8 +24,8 @@ abbrev pub packets_of_sent : List SentPacket → List Packet
 packets_of_sent sent = map (λ one. one.packet) sent
 
 -- the packets `first` and `others` are sent after `noise`, and all half-bits together contain the
--- packets `all`: the packets of the noise, at most one packet of an unfinished body, `first` unless
--- it is lost, and `others`
+-- packets `all`. The list `all` has the packets of the noise, at most one packet of an unfinished
+-- body, `first` unless it is lost, and `others`.
 pub record CanBeHeardAfterNoise (noise : List ℕ) (first : SentPacket) (others : List SentPacket) (all : List Packet)
     : Type 0 where
   -- the packets in the noise
@@ -34,11 +34,11 @@ pub record CanBeHeardAfterNoise (noise : List ℕ) (first : SentPacket) (others 
   -- at most one packet, which ends a body that the noise leaves unfinished
   pub unfinished : List Packet
   pub at_most_one : length unfinished ≤ 1
-  -- the packet `first`, or an empty list if it is lost; it is never lost if its preamble has at
-  -- least 18 ones
+  -- the packet `first`, or an empty list if `first` is lost. A packet whose preamble has at least
+  -- 18 ones is never lost.
   pub kept : List Packet
   pub kept_or_lost : (kept ≡ first.packet ∷ []) ⊎ ((kept ≡ []) × (first.timing.preamble < 18))
-  -- each of the other packets, in order, and nothing after them
+  -- all packets of `others`, in order, and no further packet
   pub parts : all ≡ before ++ unfinished ++ kept ++ packets_of_sent others
 
 -- Each packet that is sent after noise is heard, except the packet `first`, which can be lost. `all`
@@ -48,15 +48,15 @@ NoiseCostsNoPacketButTheFirst =
     (noise : List ℕ) (first : SentPacket) (others : List SentPacket) (all : List Packet)
     → ArePackets all (noise ++ halves_of_sent (first ∷ others)) → CanBeHeardAfterNoise noise first others all
 
--- if no body is unfinished after `noise`, each packet that is sent after it is heard, and no other
--- packet. The noise contains the packets `before`.
+-- if no body is unfinished after `noise`, exactly the packets that are sent after the noise are
+-- heard in addition to the packets of the noise. The noise contains the packets `before`.
 abbrev pub NoiseBetweenBodiesCostsNoPacket : Type 0
 NoiseBetweenBodiesCostsNoPacket =
     (noise : List ℕ) (ones : ℕ) (before : List Packet) (sent : List SentPacket) → rest noise ≡ Hunting ones
     → ArePackets before noise → ArePackets (before ++ packets_of_sent sent) (noise ++ halves_of_sent sent)
 
 -- a decoder hears noise, and then the half-bits of the packets `first` and `others`. Its registers
--- are then those after a list of packets `all` of which `CanBeHeardAfterNoise` holds.
+-- are then the result of a list of packets `all` for which `CanBeHeardAfterNoise` holds.
 abbrev pub DecodersHearPacketsAfterNoise : Type 0
 DecodersHearPacketsAfterNoise =
     (noise : List ℕ) (first : SentPacket) (others : List SentPacket) (who who' : Who) (start now : RegisterMap)
@@ -70,8 +70,9 @@ MeasuredPacketsAreHeard =
     (sent : List SentPacket) (measured : List ℕ) → AreWithin 3 (halves_of_sent sent) measured
     → ArePackets (packets_of_sent sent) measured
 
--- a decoder can have heard half-bits that are measured with an error of at most 3 microseconds if
--- and only if it can have heard the exact half-bits. The half-bits `before` and `after` are exact.
+-- errors of at most 3 microseconds in the half-bits `measured` of sent packets do not change what a
+-- decoder hears. A decoder has heard `measured` between `before` and `after` if and only if it has
+-- heard the exact half-bits between `before` and `after`.
 abbrev pub MeasuringChangesNoDecoder : Type 0
 MeasuringChangesNoDecoder =
     (sent : List SentPacket) (before measured after : List ℕ) (who who' : Who) (start now : RegisterMap)
@@ -79,8 +80,8 @@ MeasuringChangesNoDecoder =
     → HasHeardHalves (before ++ measured ++ after) who start who' now
     ↔ HasHeardHalves (before ++ halves_of_sent sent ++ after) who start who' now
 
--- the half-bits of the packets `earlier`, and then of three copies of a packet, one of which noise
--- replaces: `copies` copies, the noise, and `more` copies
+-- the half-bits of the packets `earlier`, and then of three copies of the packet `copy`, of which
+-- `noise` replaces one. `copies` copies come before the noise, and `more` copies come after it.
 abbrev pub copies_around_noise : List SentPacket → SentPacket → ℕ → ℕ → List ℕ → List ℕ
 copies_around_noise earlier copy copies more noise =
     halves_of_sent (earlier ++ replicate copies copy) ++ noise ++ halves_of_sent (replicate more copy)
@@ -95,10 +96,10 @@ OneOfThreeCopiesIsHeard =
     → (between : List Packet) × (after : List Packet)
     × (all ≡ packets_of_sent earlier ++ between ++ copy.packet ∷ after)
 
--- If noise replaces one of three copies of the packet `stop`, which the decoder hears, the
--- locomotive stands at the end, provided that no heard packet after the packets `earlier` sets the
--- speed to a step. `later` are all packets after `earlier`: the copies, the packets of the noise, and
--- the packets of the half-bits `further`, which come after the copies.
+-- Let noise replace one of three copies of the packet `stop`, which the decoder hears. The
+-- locomotive stands at the end if no heard packet after the packets `earlier` sets the speed to a
+-- step. `later` are all packets after `earlier`: the copies, the packets of the noise, and the
+-- packets of the half-bits `further`, which come after the copies.
 abbrev pub OneOfThreeStopsIsEnough : Type 0
 OneOfThreeStopsIsEnough =
     (earlier : List SentPacket) (stop : SentPacket) (copies more : ℕ) (noise further : List ℕ) (later : List Packet)

@@ -22,7 +22,7 @@ cut_more (Block block write rest) p = Block block write (cut_more rest p)
 
 -- A packet `p` that decoder `who` does not hear leaves the cut list unchanged. An own write
 -- directly after two copies of itself also leaves the cut list unchanged. Any other own write ends
--- the last block, and any other packet is added to it.
+-- the last block. Any other packet is added to the last block.
 abbrev pub OneMorePacket : Type 0
 OneMorePacket = (who : Who) (packets : List Packet) (p : Packet) →
     cut_for who (packets ++ p ∷ []) ≡
@@ -31,8 +31,9 @@ OneMorePacket = (who : Who) (packets : List Packet) (p : Packet) →
     (cut_for who packets) p)
     else cut_for who packets)
 
--- the first cut list is a prefix of the second. It has the same blocks and writes, but its last
--- block can be longer in the second, and more blocks can follow.
+-- the first cut list is a prefix of the second cut list: both have the same blocks and writes up to
+-- the end of the first one. The last block of the first cut list can be longer in the second one,
+-- and more blocks can follow there.
 abbrev pub GoesOnAs : Cut → Cut → Type 0
 GoesOnAs (LastBlock block) (LastBlock longer) = (more : List Packet) × (longer ≡ block ++ more)
 GoesOnAs (LastBlock block) (Block longer write rest) = (more : List Packet) × (longer ≡ block ++ more)

@@ -18,7 +18,7 @@ ShowsAtOneMore framer us answer =
     → seen (halves ++ us ∷ []) ≡ seen halves ++ report_at (length halves) answer
 
 -- a framer in state `old` that takes a half-bit of `us` microseconds returns `shown` and goes to
--- state `new`. After an outcome it searches for a preamble.
+-- state `new`. After an outcome the framer searches for a preamble.
 pub record PushesHalf (old : Rest) (us : ℕ) (shown : Seen) (new : Rest) : Type 0 where
   pub stands : StandsForOneMore old us new
   pub sees : ShowsAtOneMore old us shown

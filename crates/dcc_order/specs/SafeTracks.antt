@@ -13,25 +13,26 @@ use Rattle.dcc_regs.specs.Result.{RegisterMap}
 use Rattle.dcc_regs.specs.Safety.{is_standing, is_stop_packet, can_move, can_have_step, SetByWrite, SetByTwoCopies}
 use Rattle.dcc_order.specs.Hearing.{ArePackets, HasHeardHalves}
 
--- if the speed in the registers `start` is a stop, and the decoder hears no packet of `halves` that
--- sets the speed to a step, the speed is a stop after `halves`
+-- let the speed in the registers `start` be a stop. If the decoder hears no packet of `halves` that
+-- sets the speed to a step, the speed is a stop after `halves`.
 abbrev pub StandingLocoStandsOnTrack : Type 0
 StandingLocoStandsOnTrack =
     (halves : List ℕ) (packets : List Packet) (who who' : Who) (start now : RegisterMap) → ArePackets packets halves
     → HasHeardHalves halves who start who' now → list_any can_move (heard who packets) ≡ false
     → is_standing (start SpeedRegister) ≡ true → is_standing (now SpeedRegister) ≡ true
 
--- if the speed in the registers `start` is a stop, and the decoder hears in `halves` no speed
--- packet to its own address and no speed packet of 128 steps to all locomotives, the speed is a
--- stop after `halves`
+-- let the speed in the registers `start` be a stop, and let the decoder hear in `halves` no speed
+-- packet to its own address and no speed packet of 128 steps to all locomotives. Then the speed is
+-- a stop after `halves`.
 abbrev pub OnlySpeedPacketsOfTrackMove : Type 0
 OnlySpeedPacketsOfTrackMove =
     (halves : List ℕ) (packets : List Packet) (who who' : Who) (start now : RegisterMap) → ArePackets packets halves
     → HasHeardHalves halves who start who' now → list_any can_have_step (heard who packets) ≡ false
     → is_standing (start SpeedRegister) ≡ true → is_standing (now SpeedRegister) ≡ true
 
--- after half-bits with the packets `before`, the heard packet `stop` and the packets `later`, the
--- speed of a locomotive is a stop, if no heard packet of `later` sets the speed to a step
+-- let half-bits contain the packets `before`, the heard packet `stop` and the packets `later`. If
+-- no heard packet of `later` sets the speed to a step, the speed of the locomotive is a stop at the
+-- end.
 abbrev pub LastStopOfTrackStops : Type 0
 LastStopOfTrackStops =
     (halves : List ℕ) (before : List Packet) (stop : Packet) (later : List Packet) (who who' : Who)
@@ -39,16 +40,16 @@ LastStopOfTrackStops =
     → is_some (start SpeedRegister) ≡ true → hears who stop ≡ true → is_stop_packet stop ≡ true
     → list_any can_move (heard who later) ≡ false → is_standing (now SpeedRegister) ≡ true
 
--- if half-bits `halves` change bit k of CV n, a write to the decoder's own address among their
--- packets sets this bit while an equal write is pending
+-- let the half-bits `halves` change bit k of CV n. Then `halves` contain a write to the decoder's
+-- own address that sets this bit while an equal write is pending.
 abbrev pub CvsOfTrackChangeByWrites : Type 0
 CvsOfTrackChangeByWrites =
     (halves : List ℕ) (packets : List Packet) (who who' : Who) (start now : RegisterMap) (n k : ℕ)
     → ArePackets packets halves → HasHeardHalves halves who start who' now
     → now (CvBit n k) ≢ start (CvBit n k) → SetByWrite who start packets n k
 
--- if no write is pending in the registers `start`, and half-bits `halves` change bit k of CV n, two
--- copies of a write to the decoder's own address among their packets set this bit
+-- let no write be pending in the registers `start`, and let the half-bits `halves` change bit k of
+-- CV n. Then `halves` contain two copies of a write to the decoder's own address that set this bit.
 abbrev pub CvsOfTrackChangeByTwoCopies : Type 0
 CvsOfTrackChangeByTwoCopies =
     (halves : List ℕ) (packets : List Packet) (who who' : Who) (start now : RegisterMap) (n k : ℕ)

@@ -17,8 +17,9 @@ abbrev pub last_seen : Seen → List (ℕ × Seen) → Seen
 last_seen before [] = before
 last_seen before (at ∷ later) = last_seen at.1 later
 
--- after the half-bits `track`, `framer` has taken all half-bits of `halves` except the last ones,
--- `left`. The last outcome among these half-bits is `kept`, or `Nothing` if they have no outcome.
+-- after the half-bits `track`, `framer` has taken all half-bits of `halves` except the last
+-- half-bits `left`. The last outcome among the taken half-bits of `halves` is `kept`, or `Nothing`
+-- if they have no outcome.
 pub record HasComeBehind (track halves left : List ℕ) (framer : Rest) (kept : Seen) : Type 0 where
   pub come : List ℕ
   pub parts : come ++ left ≡ halves
@@ -55,7 +56,7 @@ SomethingIsSeen =
     → ShowsAtOneMore framer us answer → (answer ≡ Nothing → ⊥) → IsBeingSent start one later next answer
 
 -- after the last half-bit of a frame, the frame is the last outcome, if the framer took only whole
--- frames before it
+-- frames before this frame
 abbrev pub FrameIsSeen : Type 0
 FrameIsSeen =
     (start framer : Rest) (one : Sent) (left : List ℕ) (kept : Seen) (before : List Sent)

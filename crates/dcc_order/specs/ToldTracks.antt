@@ -20,8 +20,8 @@ abbrev pub IsTold : {L : Type 0} → (L → Note → L → Type 0) → List Pack
 IsTold told [] old now = now ≡ old
 IsTold {L} told (p ∷ later) old now = (between : L) × told old (note_of p) between × IsTold told later between now
 
--- a framer took the half-bits `halves`, the decoder heard the packets in them, and the listener was
--- notified of the packets that the decoder hears
+-- a framer took the half-bits `halves`, and the decoder heard the packets in these half-bits. The
+-- listener was notified of the packets that the decoder hears.
 pub record WereHeardAndTold {L : Type 0} (told : L → Note → L → Type 0) (halves : List ℕ) (framer : Rest) (who : Who)
     (start : RegisterMap) (who' : Who) (now : RegisterMap) (listener listener' : L) : Type 0 where
   pub stands : StandsFor framer halves
@@ -54,7 +54,7 @@ NoPacketHasCome {L} told =
     → HaveCome told (take (n + 1) track) next who start who' now listener listener'
 
 -- after a half-bit that completes a packet that the decoder hears, the decoder has heard the packet
--- and the listener was notified of it
+-- and the listener was notified of this packet
 abbrev pub PacketIsTold : {L : Type 0} → (L → Note → L → Type 0) → Type 0
 PacketIsTold {L} told =
     (track : List ℕ) (n : ℕ) (framer next : Rest) (answer : Seen) (frame : Frame) (p : Packet)

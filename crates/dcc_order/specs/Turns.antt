@@ -1,6 +1,6 @@
 -- How a packet and its rival alternate in a block, as two values: the number of turns, and true if
 -- the rival took the last turn. A turn is a sequence of occurrences of one of the two packets with
--- no occurrence of the other one between them.
+-- no occurrence of the other packet between them.
 use Rattle.std.specs.Prelude.{ℕ, ◌+◌, ◌≡◌, ◌<◌, slice_index_or, ◌||◌, ◌==◌, true, false, List, [], ◌∷◌, Option, Some}
 use Rattle.std.specs.Prelude.{fold, length, if◌then◌else◌}
 use Rattle.dcc_packet.specs.declared.packet.Packet.{Packet}
@@ -15,14 +15,14 @@ last_behind before (p ∷ later) = last_behind (Some p) later
 abbrev pub no_turns : Turns
 no_turns = record { count = 0; rival_last = false }
 
--- the alternation `taken` after an occurrence of the packet itself, which is a new turn if it is
--- the first turn, or if the rival took the last turn
+-- the alternation `taken` after one more occurrence of the packet. The occurrence is a new turn if
+-- it is the first turn, or if the rival took the last turn.
 abbrev pub own_turn : Turns → Turns
 own_turn taken =
     if taken.rival_last || taken.count == 0 then record { count = taken.count + 1; rival_last = false } else taken
 
--- the alternation `taken` after an occurrence of the rival, which is a new turn unless the rival
--- took the last turn
+-- the alternation `taken` after one more occurrence of the rival. The occurrence is a new turn
+-- unless the rival took the last turn.
 abbrev pub rival_turn : Turns → Turns
 rival_turn taken = if taken.rival_last then taken else record { count = taken.count + 1; rival_last = true }
 

@@ -1,5 +1,5 @@
-//! The headline theorem: decoders that start equal and hear two tracks that are alike for them end
-//! equal. Each track is heard from its first half-bit on, through a new framer.
+//! The headline theorem: decoders that start equal, and hear two tracks that are alike for them,
+//! end equal. A new framer hears each track from its first half-bit on.
 
 ghost use Rattle.std.specs.List.{AllZip};
 ghost use Rattle.std.specs.Prelude.{◌≡◌};
@@ -13,9 +13,9 @@ use dcc_wire::Framer;
 
 /// Two fleets hear two tracks, each through a new framer and in pieces of any length.
 ///
-/// Let the decoders of each pair be equal before, and let the packets of the two tracks be alike
-/// for them. Then the decoders of each pair are equal again. The two decoders of a pair can have
-/// different types.
+/// Two decoders at the same place of the fleets form a pair. Let the decoders of each pair be equal
+/// before, and let the packets of the two tracks be alike for these decoders. Then the decoders of
+/// each pair are equal again. The two decoders of a pair can have different types.
 pub fn hear_two_tracks<L: Decoder, R: Decoder>(
     left: &mut [L],
     right: &mut [R],

@@ -15,8 +15,8 @@ use std::alloc::Global;
 use std::marker::Model;
 
 /// Compares two lists of packets for a decoder, packet by packet. The comparer says which list must
-/// give the next packet, and holds at most one block of each list. The comparer returns the verdict
-/// as soon as two finished blocks decide the verdict.
+/// give the next packet, and stores at most one block of each list. The comparer returns the
+/// verdict as soon as two finished blocks decide the verdict.
 #[derive(Drop)]
 pub struct Comparer {
     comparison: Comparison,
@@ -76,11 +76,11 @@ impl Comparer {
         self.comparison.wants
     }
 
-    /// Gives the next packet, or `None` for the end, of the list that [`wants`](Self::wants)
-    /// returns. After the verdict is decided, the function changes nothing.
+    /// Passes an item of the list that [`wants`](Self::wants) returns to the comparer: the next
+    /// packet, or `None` for the end. After the verdict is decided, the function changes nothing.
     ///
     /// Errors: NoMemory if an allocation fails. If an allocation fails, the comparer is unchanged,
-    /// and the caller can give the item again. The function does not allocate for an end, or for a
+    /// and the caller can pass the item again. The function does not allocate for an end, or for a
     /// packet that the decoder does not hear.
     pub fn give(&mut self, item: Option<Packet>) -> Result<(), NoMemory>
         requires left { self.old.wants ≡ Wants.Left → IfSome item (λ _. self.old.left_given < 2 ^ 32 - 1) }
@@ -99,7 +99,8 @@ impl Comparer {
         Ok(self.comparison.give(item)?)
     }
 
-    /// Returns the number of packets of the first list and of the second list that were given.
+    /// Returns two numbers: how many packets of the first list, and how many packets of the second
+    /// list, the comparer has got.
     pub fn given(&self) -> (u32, u32)
         ensures is { result ≡ (self.now.left_given, self.now.right_given) }
         ensures given { (lists : Lists) → ComparerRepresents self.now lists
@@ -108,9 +109,9 @@ impl Comparer {
         (self.comparison.left_given, self.comparison.right_given)
     }
 
-    /// Returns the number of packets that the comparer holds. Until the verdict is decided, the
-    /// comparer holds the packets of block n of both lists. The number n is the smaller of the
-    /// numbers of writes that cut the two lists.
+    /// Returns the number of packets that the comparer stores. Until the verdict is decided, it
+    /// stores the packets of block n of both lists. The number n is the smaller of the two numbers
+    /// of own writes that cut the lists into blocks so far.
     pub fn held(&self) -> u64
         ensures { (lists : Lists) → ComparerRepresents self.now lists → ((v : VerdictOf)
             → ¬ (self.now.wants ≡ Wants.Done v))

@@ -13,8 +13,9 @@ use dcc_packet::Packet;
 use dcc_regs::Who;
 use std::alloc::Global;
 
-/// Returns the first difference of two lists of packets for the decoder `who`, or `Alike`. Lists
-/// that are alike leave the decoder with equal registers, for any registers at the start.
+/// Returns the first difference of two lists of packets for the decoder `who`, or `Alike`. If the
+/// lists are alike, the decoder has equal registers after both lists, for any registers at the
+/// start.
 ///
 /// The time is proportional to the number of packets times the number of different packets of a
 /// block that set a register of the decoder. The function allocates memory for one block of each

@@ -17,9 +17,9 @@ use dcc_packet::Packet;
 use dcc_regs::{Who, hears, is_own_write};
 use std::alloc::{AllocError, Global};
 
-/// The state of a comparison, which holds at most one block of each list. The left list is read to
-/// the end of a block. After the left list, the right list is read to the end of its block with the
-/// same number. After both lists were read, the two blocks are compared and cleared.
+/// The state of a comparison, which stores at most one block of each list. First the left list is
+/// read to the end of a block, and then the right list to the end of its block with the same
+/// number. Then the two blocks are compared and cleared.
 #[derive(Drop)]
 pub struct Comparison {
     pub who: Who,
@@ -29,8 +29,8 @@ pub struct Comparison {
     pub right_given: u32,
     pub left_heard: LastHeard,
     pub right_heard: LastHeard,
-    /// The write that ended the left block. If the right list is wanted, `None` means that the left
-    /// list has ended.
+    /// The write that ended the left block. If the comparison waits for the right list, `None`
+    /// means that the left list has ended.
     pub left_end: Option<Packet>,
     pub held: HeldBlocks,
 }
@@ -54,7 +54,7 @@ impl Comparison {
         }
     }
 
-    /// Gives the next packet, or `None` for the end, of the list that `wants` names.
+    /// Takes an item of the list that `wants` names: the next packet, or `None` for the end.
     ///
     /// Errors: AllocError if an allocation fails. If an allocation fails, the comparison is
     /// unchanged.
@@ -93,7 +93,7 @@ impl Comparison {
         self.held.len()
     }
 
-    /// Ends the left list, and requests the right list.
+    /// Takes the end of the left list. The comparison then waits for the right list.
     fn end_left(&mut self)
         requires { self.old.wants ≡ Wants.Left }
         ensures stands { (lists : Lists) → ComparerRepresents self.old lists
@@ -160,7 +160,7 @@ impl Comparison {
         Ok(())
     }
 
-    /// Ends the left block with a write, and requests the right list.
+    /// Ends the left block with a write. The comparison then waits for the right list.
     fn close_left(&mut self, packet: &Packet)
         requires { self.old.left_given < 2 ^ 32 - 1 }
         ensures { self.new ≡ closed_left self.old packet.now }
@@ -170,7 +170,7 @@ impl Comparison {
         self.leave_out_left(packet);
     }
 
-    /// Ends the right list, which decides the verdict.
+    /// Takes the end of the right list, which decides the verdict.
     fn end_right(&mut self)
         requires { self.old.wants ≡ Wants.Right }
         ensures stands { (lists : Lists) → ComparerRepresents self.old lists
@@ -229,7 +229,7 @@ impl Comparison {
     }
 
     /// Adds a packet to the right block. If the left block does not contain the packet, the verdict
-    /// is `Members`, for any further packets.
+    /// is `Members`, and no further packet can change it.
     fn join_right(&mut self, packet: &Packet) -> Result<(), AllocError>
         requires { self.old.right_given < 2 ^ 32 - 1 }
         ensures ok { OnOk result (JoinsRight self.old packet.now self.new) }

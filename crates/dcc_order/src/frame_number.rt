@@ -1,4 +1,4 @@
-//! Functions that return a frame as a number.
+//! Functions that convert a frame to a number.
 
 ghost use Rattle.std.specs.Prelude.{◌≡◌, ◌<◌, ◌≤◌, ◌+◌, ◌*◌, ◌^◌, length};
 ghost use Rattle.dcc_order.specs.FrameNumbers as index;
@@ -25,8 +25,8 @@ pub fn frame_number(frame: &Frame) -> u64
     number_of_bytes(bytes)
 }
 
-/// Returns the number of these bytes: the first byte is the lowest byte, and a byte 1 stands above
-/// the last byte.
+/// Returns `bytes` as one number. The first byte is the lowest byte of the number, and a byte 1
+/// stands above the last byte.
 fn number_of_bytes(bytes: &[u8]) -> u64
     requires { length bytes.now ≤ 6 }
     ensures { result ≡ index.frame_number bytes.now }
@@ -42,7 +42,8 @@ fn number_of_bytes(bytes: &[u8]) -> u64
     }
 }
 
-/// Returns the number of a byte and the bytes after this byte, whose number is `later`.
+/// Returns the number of a list of bytes that begins with `byte`. The number of the bytes after
+/// `byte` is `later`.
 fn below(byte: &u8, later: u64) -> u64
     requires { later < 2 ^ 56 }
     ensures { result ≡ byte.now + 256 * later }

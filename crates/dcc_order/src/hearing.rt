@@ -28,7 +28,7 @@ fn hear_seen<D: Decoder>(decoders: &mut [D], seen: &Seen)
 /// hears the packet. If no packet ends, no decoder changes. Returns the outcome that the framer
 /// returns.
 ///
-/// `hear_half` is [`hear`] for decoders of one type, in boxes or not.
+/// `hear_half` does what [`hear`] does, for decoders of one type, which can be in boxes.
 #[inline(always)]
 pub fn hear_half<D: Decoder>(decoders: &mut [D], framer: &mut Framer, us: u16) -> Seen
     // The framer takes the half-bit, and the result is the outcome that ends with this half-bit.
@@ -57,7 +57,7 @@ pub fn hear_half<D: Decoder>(decoders: &mut [D], framer: &mut Framer, us: u16) -
 /// packet ends in these half-bits. If a packet ends, each decoder hears the packet. If no packet
 /// ends, no decoder changes. Returns the outcome that the framer returns.
 ///
-/// `hear_half_run` is [`hear_run`] for decoders of one type, in boxes or not.
+/// `hear_half_run` does what [`hear_run`] does, for decoders of one type, which can be in boxes.
 pub fn hear_half_run<D: Decoder>(
     decoders: &mut [D],
     framer: &mut Framer,
@@ -110,8 +110,8 @@ pub fn hear_run(decoders: &mut [Box<dyn Decoder>], framer: &mut Framer, us: u16,
     hear_half_run(decoders, framer, us, n)
 }
 
-/// A fleet hears a piece of a track, which can have any length. Decoders that have heard a list of
-/// half-bits before the call have heard the list with the piece at its end after the call.
+/// A fleet hears a piece of a track, which can have any length. If the decoders have heard a list
+/// of half-bits before the call, they have then heard this list with the piece at its end.
 pub fn hear_piece<D: Decoder>(decoders: &mut [D], framer: &mut Framer, durations: &[u16])
     ensures stands { (halves : List ℕ) → StandsFor framer.old halves → StandsFor framer.new (halves ++ durations.now) }
     ensures since { HearMore D.who D.registers framer.old durations.now decoders.old decoders.new }

@@ -16,8 +16,8 @@ use std::collections::BTreeMap;
 use std::marker::Model;
 
 /// The open blocks of two lists. The packets of the second block are stored as numbers of packets
-/// of the first block. A packet that the first block does not contain is not stored, since the
-/// blocks then differ.
+/// of the first block. A packet of the second block that the first block does not contain is not
+/// stored, since the blocks then differ.
 ///
 /// All memory is allocated while packets are appended. The memory holds the packets of the blocks,
 /// the turns of each different packet, and an index of the different packets by the numbers of
@@ -139,8 +139,8 @@ impl HeldBlocks {
         same
     }
 
-    /// Returns true if each two conflicting packets of the first block alternate equally in both
-    /// blocks.
+    /// Returns true if every two conflicting packets of the first block alternate in the same way
+    /// in both blocks.
     pub fn has_same_order(&mut self) -> bool
         ensures same { IsTrue result ↔ SameOrder self.old.first self.old.second }
         ensures unchanged { self.new ≡ self.old }

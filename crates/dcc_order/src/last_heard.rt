@@ -6,7 +6,7 @@ ghost use Rattle.dcc_order.specs.Comparisons.{heard_next, nothing_heard};
 
 use dcc_packet::Packet;
 
-/// The last packet that was heard, and true if the packet before it was equal.
+/// The last packet that was heard, and true if the packet before the last packet was equal.
 #[derive(Clone, Copy, Debug)]
 pub struct LastHeard {
     packet: Option<Packet>,

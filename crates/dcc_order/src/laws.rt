@@ -30,7 +30,7 @@ use dcc_regs::{Decoder, Notify};
 
 /// Theorem: let two decoders of any types start equal, and let each hear half-bits through a new
 /// framer, in any pieces. If the packets of the half-bits are alike for the decoders, their
-/// registers are equal. The contract of `hear` provides the premise that a decoder has heard its
+/// registers are equal. The contract of `hear` provides the premise that each decoder has heard its
 /// half-bits.
 pub fn decoders_that_heard_alike_halves_are_equal(left: &dyn Decoder, right: &dyn Decoder)
     ensures { (own : Who) (start : RegisterMap) (halves others : List ℕ) → AlikeHalves own halves others →
@@ -65,14 +65,14 @@ pub fn sent_packet_is_done()
     ensures { SentPacketIsDone }
 {}
 
-/// Theorem: lists that are alike for a decoder leave equal CV bits after each block, for any
-/// registers at the start.
+/// Theorem: let two lists be alike for a decoder. After each block, the CV bits of the decoder are
+/// equal for both lists, for any registers at the start.
 pub fn alike_lists_agree_after_each_block()
     ensures { AlikeListsAgreeAfterEachBlock }
 {}
 
-/// Theorem: lists that are alike for a decoder leave equal values in each of its registers, for any
-/// registers at the start.
+/// Theorem: if two lists are alike for a decoder, each register of the decoder has the same value
+/// after both lists, for any registers at the start.
 pub fn alike_lists_leave_the_same()
     ensures { AlikeListsLeaveTheSame }
 {}
@@ -89,22 +89,22 @@ pub fn alike_halves_leave_the_same()
     ensures { AlikeHalvesLeaveTheSame }
 {}
 
-/// Theorem: one more packet changes no block if the decoder does not hear it, or if it is a write
-/// that follows two copies of itself. Each other write ends the last block, and each other packet
-/// is added to the last block.
+/// Theorem: one more packet changes no block if the decoder does not hear the packet, or if the
+/// packet is an own write that follows two copies of itself. Each other own write ends the last
+/// block, and each other packet is added to the last block.
 pub fn one_more_packet()
     ensures { OneMorePacket }
 {}
 
-/// Theorem: a block that was ended by a write does not change, for any further packets.
+/// Theorem: a block that a write has ended does not change, whatever packets follow.
 pub fn finished_blocks_stay()
     ensures { FinishedBlocksStay }
 {}
 
-/// Theorem: if a caller with its own loop gives a [`Comparer`](crate::Comparer) the items that it
-/// wants, the loop ends with the verdict on the two lists. The clauses are about the start, each
-/// given packet and each end of a list. After each packet and each end of a list, fewer requests
-/// remain.
+/// Theorem: let a caller with its own loop pass the items to a [`Comparer`](crate::Comparer) that
+/// the comparer asks for. The loop then ends with the verdict on the two lists. The clauses are
+/// about the start, each given packet and each end of a list. After each packet and each end of a
+/// list, fewer requests remain.
 pub fn lists_in_step()
     ensures begins { NothingGivenYet }
     ensures left { OneMoreOfLeft }
@@ -119,8 +119,8 @@ pub fn lists_in_step()
 
 /// Theorem: let a caller have its own loop over a framer, a decoder and a listener. After a track
 /// was pushed half-bit by half-bit, the decoder has heard the track. The listener was notified of
-/// each packet that the decoder hears. The clauses are about the start, each half-bit by its
-/// outcome, and the end.
+/// each packet that the decoder hears. The clauses are about the start, about each half-bit
+/// according to its outcome, and about the end.
 pub fn tracks_are_told<N: Notify>()
     ensures begins { NoHalfHasCome N.told }
     ensures no_packet { NoPacketHasCome N.told }
@@ -142,9 +142,9 @@ pub fn packets_are_told<N: Notify>()
     ensures told { TrackIsTold N.told }
 {}
 
-/// Theorem: if a caller with its own loop over [`Halves`](dcc_wire::Halves) pushes each half-bit to
-/// a framer, the last outcome of the framer is the frame. The clauses are about the start, each
-/// half-bit, and the end.
+/// Theorem: let a caller with its own loop over [`Halves`](dcc_wire::Halves) push each half-bit of
+/// a frame to a framer. The last outcome of the framer is then this frame. The clauses are about
+/// the start, each half-bit, and the end.
 pub fn frames_are_sent()
     ensures begins { SendingBegins }
     ensures nothing { NothingIsSeen }
@@ -173,9 +173,9 @@ pub fn decoders_are_safe_on_any_track()
 /// Theorem: noise costs at most the first packet that is sent after it. Noise is any list of
 /// half-bits.
 ///
-/// The packets after the noise are at most one packet of a body that the noise leaves unfinished,
-/// the first packet unless it is lost, and then exactly the other packets, in order. The packet of
-/// the unfinished body can be a packet that nobody sent.
+/// After the noise, a decoder hears at most one packet of a body that the noise leaves unfinished.
+/// Then it hears the first packet, unless this packet is lost, and then exactly the other packets,
+/// in order. The packet of the unfinished body can be a packet that nobody sent.
 pub fn noise_costs_no_packet_but_the_first()
     // The first packet is lost only if its preamble has fewer than 18 ones.
     ensures packets { NoiseCostsNoPacketButTheFirst }

@@ -1,4 +1,4 @@
-//! Slots of an array, which stores the packets of a block and also the different packets of this
+//! An array of slots, which stores the packets of a block and also the different packets of this
 //! block.
 
 ghost use Rattle.std.specs.Prelude.{◌≡◌, ◌↔◌, ◌<◌, ◌≤◌, ℕ, IsTrue, length, slice_index_or, slice_set, vec_len};
@@ -20,7 +20,7 @@ use std::collections::BTreeMap;
 
 /// A slot of the first block, with two independent parts. The field `number` of slot i is the
 /// number of the packet at place i of the block. The field `member` is the different packet with
-/// number i, if there is one. So the different packets need no array of their own.
+/// number i, if there is one. So the different packets do not need a separate array.
 #[derive(Clone, Copy, Debug)]
 pub struct Place {
     pub number: usize,
@@ -38,7 +38,7 @@ pub fn number_at(index: &BTreeMap<u64, usize>, frame: u64, count: usize) -> usiz
     }
 }
 
-/// Appends a slot to the array, which must have capacity for it.
+/// Appends a slot to the array, which must have capacity for one more slot.
 pub fn push_place(places: &mut Vec<Place>, number: usize, packet: &Packet)
     requires { vec_len places.old < vec_capacity places.old }
     ensures items { places.new.items ≡ places.old.items ++ (record { number = number; member = packet.now }) ∷ [] }
@@ -50,7 +50,7 @@ pub fn push_place(places: &mut Vec<Place>, number: usize, packet: &Packet)
     });
 }
 
-/// Stores the different packet with the number `at`.
+/// Stores `packet` as the packet with the number `at` among the different packets of the block.
 pub fn set_distinct_packet(places: &mut Vec<Place>, at: usize, packet: &Packet)
     requires { at < vec_len places.old }
     ensures { (d : Place)
@@ -76,8 +76,8 @@ pub fn contains_all_below(numbers: &[usize], count: usize, turns: &mut Vec<Turns
     all_rivals_occur(turns.as_slice())
 }
 
-/// Returns true if the block contains each rival. The turns must be those of a packet that the
-/// block does not contain.
+/// Returns true if the block contains each rival. The parameter `turns` must have the turns of a
+/// packet that the block does not contain.
 fn all_rivals_occur(turns: &[Turns]) -> bool
     ensures { IsTrue result ↔
         ((k : ℕ) (t : TurnsOf) → k < length turns.now → IsTrue (slice_index_or turns.now k t).rival_last) }
@@ -90,8 +90,8 @@ fn all_rivals_occur(turns: &[Turns]) -> bool
     true
 }
 
-/// Returns true if each two different packets that conflict alternate equally in both blocks. The
-/// lists of turns must have capacity for an entry for each different packet.
+/// Returns true if every two different packets that conflict alternate in the same way in both
+/// blocks. The lists of turns must have capacity for an entry for each different packet.
 pub fn same_turns_of_all(
     places: &[Place],
     count: usize,
@@ -114,9 +114,9 @@ pub fn same_turns_of_all(
     true
 }
 
-/// Returns true if packet `own` and each conflicting packet with a lower number alternate equally
-/// in both blocks. Conflict is symmetric, so the calls for the higher numbers compare the other
-/// pairs.
+/// Returns true if packet `own` and each conflicting packet with a lower number alternate in the
+/// same way in both blocks. Conflict is symmetric, so the calls for packets with higher numbers
+/// compare all other pairs.
 fn same_turns_of(
     places: &[Place],
     own: usize,
@@ -174,7 +174,7 @@ fn count_turns_at(turns: &mut Vec<Turns>, own: usize, count: usize, places: &[Pl
 }
 
 /// Counts the turns that packet `own` and each of the first `count` different packets take in a
-/// block, given as numbers.
+/// block. The packets of the block have the numbers `numbers`.
 fn count_turns(turns: &mut Vec<Turns>, own: usize, count: usize, numbers: &[usize])
     requires { count ≤ vec_capacity turns.old }
     ensures counted { Counted turns.new.items own count numbers.now }
@@ -186,7 +186,7 @@ fn count_turns(turns: &mut Vec<Turns>, own: usize, count: usize, numbers: &[usiz
     }
 }
 
-/// Sets the turns of `count` rivals to none.
+/// Sets `turns` to `count` entries, one for each rival, in which no turn was taken.
 fn begin_turns(turns: &mut Vec<Turns>, count: usize)
     requires { count ≤ vec_capacity turns.old }
     ensures begun { Started turns.new.items count }

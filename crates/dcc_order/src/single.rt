@@ -14,9 +14,9 @@ use dcc_wire::{Framer, Seen};
 
 /// Two decoders hear two tracks, each through a new framer and in pieces of any length.
 ///
-/// If the decoders were equal, and the packets of the two tracks are alike for them, then they are
-/// equal again. The decoders can have different types. For fleets, use
-/// [`hear_two_tracks`](crate::hear_two_tracks).
+/// If the decoders were equal before, and the packets of the two tracks are alike for these
+/// decoders, then the decoders are equal again. The decoders can have different types. For fleets,
+/// use [`hear_two_tracks`](crate::hear_two_tracks).
 pub fn hear_two<L: Decoder, R: Decoder>(
     left: &mut L,
     right: &mut R,

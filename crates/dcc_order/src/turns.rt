@@ -23,7 +23,7 @@ impl Turns {
         }
     }
 
-    /// Returns the turns after the packet itself comes once more.
+    /// Returns the turns after one more occurrence of the packet.
     fn with_own(self) -> Turns
         requires { self.count < 2 ^ 64 - 1 }
         ensures { result ≡ own_turn self }
@@ -38,7 +38,7 @@ impl Turns {
         }
     }
 
-    /// Returns the turns after the rival comes once more.
+    /// Returns the turns after one more occurrence of the rival.
     fn with_rival(self) -> Turns
         requires { self.count < 2 ^ 64 - 1 }
         ensures { result ≡ rival_turn self }
@@ -67,7 +67,7 @@ impl Turns {
     }
 }
 
-/// Updates the turns of a packet with each rival after the packet itself comes once more.
+/// Updates the turns of a packet with each rival after one more occurrence of the packet.
 fn take_own_turn(turns: &mut [Turns])
     requires { (rival : ℕ) (d : Turns) → rival < length turns.old
         → (slice_index_or turns.old rival d).count < 2 ^ 64 - 1 }
@@ -78,8 +78,8 @@ fn take_own_turn(turns: &mut [Turns])
     }
 }
 
-/// Updates the turns of packet `own` with each rival: packet `number` is the next packet of the
-/// block.
+/// Updates the turns of packet `own` with each rival. The next packet of the block has the number
+/// `number`.
 pub fn take_turn(turns: &mut [Turns], own: usize, number: usize)
     requires { (rival : ℕ) (d : Turns) → rival < length turns.old
         → (slice_index_or turns.old rival d).count < 2 ^ 64 - 1 }

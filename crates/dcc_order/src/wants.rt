@@ -9,6 +9,6 @@ pub enum Wants {
     Left,
     /// The second list must give its next packet or its end.
     Right,
-    /// The verdict is decided, for any further packets.
+    /// The verdict is decided, and no further packet can change it.
     Done(Verdict),
 }

@@ -2,7 +2,7 @@
 use Rattle.std.specs.Prelude.{ℕ, Bool, ◌==◌, ◌+◌, if◌then◌else◌}
 use Rattle.std.specs.Int.{bit_at}
 
--- true if bit `k` of the number `n` is one; bit 0 is the lowest
+-- true if bit `k` of the number `n` is one. Bit 0 is the lowest bit.
 abbrev pub is_one : ℕ → ℕ → Bool
 is_one n k = bit_at n k == 1
 

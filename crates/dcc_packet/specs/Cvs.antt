@@ -20,6 +20,6 @@ is_read_only cv = cv == 7 || cv == 8
 abbrev pub is_writable : CvNumber → Bool
 is_writable cv = not (is_read_only cv.number)
 
--- the list `cvs` after `value` was written to `cv`; unchanged if `cv` is read-only
+-- the list `cvs` after `value` was written to `cv`. The list is unchanged if `cv` is read-only.
 abbrev pub written : List ℕ → CvNumber → ℕ → List ℕ
 written cvs cv value = if is_writable cv then slice_set cvs (cv.number - 1) value else cvs

@@ -1,5 +1,6 @@
--- Fields of packet lines. A field is a sequence of words of a line. A definition of a field has the
--- values that the field can have, a rule that parses its words, and a rule that writes them.
+-- Fields of packet lines. A field is a sequence of words of a line. The definition of a field has
+-- the values that the field can have, a rule that parses its words, and a rule that writes its
+-- words.
 use Rattle.std.specs.Prelude.{◌≡◌, ℕ, ◌≤◌, ◌<◌, ◌==◌, nat_le, ◌&&◌, not, Bool, true, List, [], ◌∷◌, ◌++◌, length}
 use Rattle.std.specs.Prelude.{Result, Ok, Err}
 use Rattle.std.specs.Char.{is_ascii}
@@ -37,8 +38,8 @@ pub record FieldOf (A : Type 0) : Type 1 where
   -- the words that the field writes for a value
   pub written : A → List Word
 
--- a field of one word that can have each value of its type; `rule` parses the word, and `word`
--- writes it
+-- a field of one word that can have each value of its type. The function `rule` parses the word,
+-- and the function `word` writes it.
 abbrev pub one_word : {A : Type 0} → (Word → Result A PacketFault) → (A → Word) → FieldOf A
 one_word rule word =
     record { Fits = λ x. Unit {0}; read = λ words. word_and_rest rule words; written = λ x. word x ∷ [] }
@@ -77,8 +78,8 @@ pub record IsToken (word : Word) : Type 0 where
 abbrev pub is_keyword : Word → Bool
 is_keyword word = nat_le 1 (length word) && nat_le (length word) 12 && list_all is_plain word
 
--- the words that `field` writes for a value can be written in a line. If words `rest` follow them,
--- `field` parses the written words as this value and returns `rest`.
+-- the words that `field` writes for a value can be written in a line. If `rest` follows the written
+-- words, `field` parses the written words as this value and returns `rest`.
 pub record IsReadBack {A : Type 0} (field : FieldOf A) : Type 0 where
   pub back : (x : A) (rest : List Word) → field.Fits x → field.read (field.written x ++ rest) ≡ Ok (x, rest)
   pub tokens : (x : A) → field.Fits x → AllByRecursion IsToken (field.written x)

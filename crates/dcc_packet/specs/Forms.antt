@@ -16,8 +16,8 @@ pub record FormOf (A B : Type 0) : Type 0 where
   pub keyword : Word
   -- the value that a line of this form means if its field has a given value
   pub says : B → A
-  -- the value of the field in the line that means a given value, or `None` if no line of this form
-  -- means it
+  -- the field value of the line that means a given value, or `None` if no line of this form means
+  -- the given value
   pub said : A → Option B
 
 -- a form together with its field, which is a row of a table of forms
@@ -29,7 +29,7 @@ pub record RowOf (A : Type 0) : Type 1 where
   -- the first error
   pub read : List Word → Result (A × List Word) PacketFault
   -- the words after the keyword in the line that means a given value, or `None` if no line of this
-  -- form means it
+  -- form means the given value
   pub written : A → Option (List Word)
 
 -- the row that consists of `form` and its field `fields`
@@ -43,22 +43,23 @@ row fields form = record {
   written = λ value. option_map fields.written (form.said value);
 }
 
--- the value that a line of the keyword `word` and then `words` means, together with the words after
--- its field. The first row of the table with this keyword parses the line. If no row has the
--- keyword, the result is the error P10.
+-- the value of a line that consists of the keyword `word` and then `words`, together with the words
+-- after the field of the line. The first row of the table with this keyword parses the line. If no
+-- row has the keyword, the result is the error P10.
 abbrev pub read_by : {A : Type 0} → List (RowOf A) → Word → List Word → Result (A × List Word) PacketFault
 read_by [] word words = Err faults.Word
 read_by (form ∷ forms) word words = if is_word word form.keyword then form.read words else read_by forms word words
 
--- the value that a line of the keyword `word` and then `words` means. If a word follows the field,
--- the result is the error P10.
+-- the value of a line that consists of the keyword `word` and then `words`. If a word follows the
+-- field of the line, the result is the error P10.
 abbrev pub whole_by : {A : Type 0} → List (RowOf A) → Word → List Word → Result A PacketFault
 whole_by forms word words = do
   x ← read_by forms word words
   end ← no_more_words x.1
   Ok x.0
 
--- the words of the line that means `value`, by the first row of the table that has such a line
+-- the words of the line that means `value`. The first row of the table that can write a line for
+-- `value` writes it.
 abbrev pub written_by : {A : Type 0} → List (RowOf A) → A → List Word
 written_by [] value = []
 written_by (form ∷ forms) value =
@@ -82,8 +83,8 @@ pub record IsForm {A B : Type 0} (form : FormOf A B) : Type 0 where
   pub token : is_keyword form.keyword ≡ true
   pub back : (value : A) (x : B) → form.said value ≡ Some x → form.says x ≡ value
 
--- the words that the row `form` writes for a value can be written in a line. If words `rest` follow
--- them, the row parses the written words as this value and returns `rest`.
+-- the words that the row `form` writes for a value can be written in a line. If `rest` follows the
+-- written words, the row parses the written words as this value and returns `rest`.
 pub record IsRowBack {A : Type 0} (form : RowOf A) : Type 0 where
   pub keyword : IsToken form.keyword
   pub back : (value : A) (words rest : List Word) → form.Fits value → form.written value ≡ Some words
@@ -96,7 +97,8 @@ abbrev pub AreBack : {A : Type 0} → List (RowOf A) → Type 0
 AreBack [] = Unit {0}
 AreBack (form ∷ forms) = IsRowBack form × AreBack forms
 
--- some row of a table writes a line for `value`, and the first such row can have `value`
+-- some row of a table writes a line for `value`, and `value` is a possible value of the first such
+-- row
 abbrev pub SaidBy : {A : Type 0} → List (RowOf A) → A → Type 0
 SaidBy [] value = ⊥
 SaidBy (form ∷ forms) value = MatchOption (form.written value) (SaidBy forms value) (λ words. form.Fits value)

@@ -107,8 +107,8 @@ cv_number word = number word >>= cv_of
 abbrev pub bit_place : Word → Result BitPlace PacketFault
 bit_place word = small_number word >>= place_of
 
--- true for the word `1`, false for the word `0`, otherwise the error P10; this is the bit that a
--- packet writes or verifies
+-- the bit that a packet writes or verifies: true for the word `1`, false for the word `0`,
+-- otherwise the error P10
 abbrev pub bit_state : Word → Result Bool PacketFault
 bit_state word =
     if is_word word (codes "1") then Ok true

@@ -95,9 +95,9 @@ abbrev pub accessory_bytes : Board → Output → Bool → List ℕ
 accessory_bytes board output on =
     (0x80 + board.number % 64) ∷ (0x80 + 16 * (7 - board.number / 64) + 8 * bit on + output.number) ∷ []
 
--- extended accessory packet (S-9.2.1; RCN-213): 10AAAAAA 0NNN0PP1 XXXXXXXX. A and N are those of
--- the board number, which is the signal address / 4. PP is the signal address modulo 4, and X is
--- the aspect.
+-- extended accessory packet (S-9.2.1; RCN-213): 10AAAAAA 0NNN0PP1 XXXXXXXX. The board number is the
+-- signal address / 4. A is its six low bits, and N is the complement of its three high bits. PP is
+-- the signal address modulo 4, and X is the aspect.
 abbrev pub signal_bytes : SignalAddress → ℕ → List ℕ
 signal_bytes address aspect =
     let board : ℕ = address.number / 4 in

@@ -30,8 +30,8 @@ ValueFits (CvVerify cv value) = value < 256
 ValueFits (CvBitWrite cv place one) = Unit {0}
 ValueFits (CvBitVerify cv place one) = Unit {0}
 
--- each number in the packet that is sent as a byte is below 256. This holds for each `Packet` of a
--- program, since these numbers have the type `u8` there.
+-- each number in the packet that is sent as a byte is below 256. The bound holds for each `Packet`
+-- of a program, since these numbers have the type `u8` in a program.
 abbrev pub BytesFit : Packet → Type 0
 BytesFit Idle = Unit {0}
 BytesFit (Loco to what) = ValueFits what

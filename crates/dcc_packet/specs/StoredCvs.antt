@@ -4,11 +4,11 @@ use Rattle.std.specs.Prelude.{◌≡◌, ℕ, ◌-◌, Option, None, Some, IfSom
 use Rattle.dcc_packet.specs.declared.cv.CvNumber.{CvNumber}
 use Rattle.dcc_packet.specs.Cvs.{cv_in}
 
--- the value of CV `cv` in the list `cvs` is `value`; true of each value if `cv` is `None`
+-- the value of CV `cv` in the list `cvs` is `value`, or `cv` is `None`
 abbrev pub HasValue : List ℕ → Option CvNumber → ℕ → Type 0
 HasValue cvs cv value = IfSome cv (λ it. cv_in cvs it.number ≡ value)
 
--- the list `cvs` with the value `value` at CV `cv`; unchanged if `cv` is `None`
+-- the list `cvs` with the value `value` at CV `cv`. The list is unchanged if `cv` is `None`.
 abbrev pub with_value : List ℕ → Option CvNumber → ℕ → List ℕ
 with_value cvs None value = cvs
 with_value cvs (Some cv) value = slice_set cvs (cv.number - 1) value

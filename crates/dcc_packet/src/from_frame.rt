@@ -19,9 +19,9 @@ use crate::{
 use dcc_wire::Frame;
 
 impl Packet {
-    /// Returns the packet that the frame encodes, which is the packet of the row that has this
-    /// frame in the table of packets. Returns `Other` if no row has this frame. No frame is in two
-    /// rows (NMRA S-9.2.1; RCN-211 to RCN-214).
+    /// Returns the packet that the frame encodes. In the table of packets, this packet is in the
+    /// row that has the bytes of the frame. Returns `Other` if no row has these bytes. No frame is
+    /// in two rows (NMRA S-9.2.1; RCN-211 to RCN-214).
     pub fn read(frame: &Frame) -> Packet
         ensures spelled { spelling result ≡ frame.now }
         ensures only { (packet : Packet) → spelling packet ≡ frame.now → packet ≡ result }
@@ -39,7 +39,7 @@ impl Packet {
     }
 
     /// Returns the packet of the row that has the bytes of this frame. Returns `None` if no row has
-    /// these bytes. `Packet::read` returns [`Packet::Other`] for a frame in no row.
+    /// these bytes. `Packet::read` returns [`Packet::Other`] for a frame that is in no row.
     #[inline(always)]
     pub fn of_row(frame: &[u8]) -> Option<Packet>
         requires { IsFrame frame.now }
@@ -50,7 +50,7 @@ impl Packet {
     }
 }
 
-/// Returns the packet whose row has these bytes before the error byte. Returns `None` if no row has
+/// Returns the packet whose row has `bytes` before the error byte. Returns `None` if no row has
 /// these bytes.
 // (inlined, so that the compiler removes the search if the caller ignores the result, as
 // `each_frame_is_a_packet` does)
@@ -77,8 +77,8 @@ fn long_address(high: u8, low: u8) -> Address
     Address::Long(LongAddress { number })
 }
 
-/// Returns the packet to multifunction decoders that these bytes encode. Returns `None` if the
-/// bytes encode no packet to multifunction decoders.
+/// Returns the packet to multifunction decoders that `bytes` encode. Returns `None` if `bytes`
+/// encode no packet to multifunction decoders.
 #[inline(always)]
 fn loco_row(bytes: &[u8]) -> Option<Packet>
     ensures found { IfSome result (λ packet. spelling packet ≡ with_error_byte bytes.now) }
@@ -91,8 +91,8 @@ fn loco_row(bytes: &[u8]) -> Option<Packet>
 }
 
 /// Returns the address and the instruction of a packet to multifunction decoders, from the bytes
-/// before the error byte. Returns `None` if these bytes encode no instruction (NMRA S-9.2.1;
-/// RCN-211, RCN-212, RCN-214).
+/// before the error byte. Returns `None` if `bytes` encode no instruction (NMRA S-9.2.1; RCN-211,
+/// RCN-212, RCN-214).
 #[inline]
 pub fn read_loco(bytes: &[u8]) -> Option<(Address, What)>
     ensures found { IfSome result (λ told. loco_bytes told.0 told.1 ≡ bytes.now) }
@@ -103,8 +103,8 @@ pub fn read_loco(bytes: &[u8]) -> Option<(Address, What)>
     Some((to, what))
 }
 
-/// Returns the address at the beginning of the bytes, and the bytes after this address. Returns
-/// `None` if the bytes do not begin with an address.
+/// Returns the address at the beginning of `bytes`, and the bytes after this address. Returns
+/// `None` if `bytes` do not begin with an address.
 #[inline(always)]
 fn address(bytes: &[u8]) -> Option<(Address, &[u8])>
     ensures found { IfSome result (λ told. address_bytes told.0 ++ told.1.now ≡ bytes.now) }

@@ -27,11 +27,11 @@ impl Packet {
     /// frame HEX
     /// ```
     ///
-    /// Spaces, tabs and carriage returns separate words. TO is `all`, or `s` or `l` and a number.
-    /// `f` is forward and `r` is reverse. GROUP is 0, 5, 9, 13, 21, 29, 37, 45, 53 or 61. A number
-    /// has 1 to 5 decimal digits. The greatest number is 255 for BITS, NUMBER, VALUE, PLACE,
-    /// OUTPUT, ASPECT and after `s`, otherwise 65535. HEX are the bytes of a frame, and the last
-    /// byte is the error byte.
+    /// Spaces, tabs and carriage returns separate words. TO is `all`, or `s` or `l` followed by a
+    /// number. `f` is forward and `r` is reverse. GROUP is 0, 5, 9, 13, 21, 29, 37, 45, 53 or 61. A
+    /// number has 1 to 5 decimal digits. The greatest number is 255 for BITS, NUMBER, VALUE, PLACE,
+    /// OUTPUT, ASPECT and after `s`, otherwise 65535. HEX is the bytes of a frame in hex digits,
+    /// and the last byte is the error byte.
     ///
     /// Errors: the function checks the words from left to right, and returns the first error. P10
     /// if a word is missing or not allowed. P11 if a number is malformed or too large. P1 to P9 or
@@ -44,8 +44,8 @@ impl Packet {
         Packet::from_line_bytes(line.as_bytes())
     }
 
-    /// Returns the packet of a line of bytes, which need not be UTF-8. The forms and the errors of
-    /// the line are those of [`from_line`](Self::from_line).
+    /// Returns the packet of a line of bytes, which need not be UTF-8. The line has the forms and
+    /// the errors of [`from_line`](Self::from_line).
     pub fn from_line_bytes(line: &[u8]) -> Result<Packet, PacketFault>
         ensures says { Says (words line.now) result }
         ensures fits { IfOk result BytesFit }

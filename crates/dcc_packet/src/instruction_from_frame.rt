@@ -6,8 +6,7 @@ ghost use Rattle.dcc_packet.specs.declared.instruction.What.{What};
 use crate::bits::is_set;
 use crate::{BitPlace, CvNumber, Group, GroupBits, SpeedBits28, SpeedBits128, StateNumber, What};
 
-/// Returns the instruction that these bytes encode. Returns `None` if the bytes encode no
-/// instruction.
+/// Returns the instruction that `bytes` encode. Returns `None` if `bytes` encode no instruction.
 pub(crate) fn instruction(bytes: &[u8]) -> Option<What>
     ensures found { IfSome result (λ what. instruction_bytes what ≡ bytes.now) }
     ensures none { IfNone result ((what : What) → instruction_bytes what ≢ bytes.now) }
@@ -20,8 +19,7 @@ pub(crate) fn instruction(bytes: &[u8]) -> Option<What>
     }
 }
 
-/// Returns the instruction that this byte encodes. Returns `None` if the byte encodes no
-/// instruction.
+/// Returns the instruction that `byte` encodes. Returns `None` if `byte` encodes no instruction.
 fn one_byte(byte: u8) -> Option<What>
     ensures found { IfSome result (λ what. instruction_bytes what ≡ byte ∷ []) }
     ensures none { IfNone result ((what : What) → instruction_bytes what ≢ byte ∷ []) }
@@ -34,8 +32,8 @@ fn one_byte(byte: u8) -> Option<What>
     }
 }
 
-/// Returns the instruction that these two bytes encode. Returns `None` if the bytes encode no
-/// instruction.
+/// Returns the instruction that the bytes `first` and `second` encode. Returns `None` if they
+/// encode no instruction.
 fn two_bytes(first: u8, second: u8) -> Option<What>
     ensures found { IfSome result (λ what. instruction_bytes what ≡ first ∷ second ∷ []) }
     ensures none { IfNone result ((what : What) → instruction_bytes what ≢ first ∷ second ∷ []) }
@@ -47,8 +45,8 @@ fn two_bytes(first: u8, second: u8) -> Option<What>
     }
 }
 
-/// Returns the instruction that these three bytes encode. Returns `None` if the bytes encode no
-/// instruction.
+/// Returns the instruction that the bytes `first`, `second` and `last` encode. Returns `None` if
+/// they encode no instruction.
 fn three_bytes(first: u8, second: u8, last: u8) -> Option<What>
     ensures found { IfSome result (λ what. instruction_bytes what ≡ first ∷ second ∷ last ∷ []) }
     ensures none { IfNone result ((what : What) → instruction_bytes what ≢ first ∷ second ∷ last ∷ []) }

@@ -13,7 +13,7 @@ ghost use Rattle.dcc_packet.specs.Written.{written_line};
 use crate::{Packet, PacketFault};
 use dcc_wire::Frame;
 
-/// Theorem: the packet that `read` returns for the frame of a packet is this packet.
+/// Theorem: if `read` gets the frame of a packet, it returns this packet.
 pub fn read_after_frame(packet: &Packet) -> Packet
     ensures { result ≡ packet.now }
 {
@@ -46,14 +46,14 @@ pub fn spellings_are_frames()
     ensures { SpellingsAreFrames }
 {}
 
-/// Theorem: the words of a line mean at most one result, which is a packet or an error.
+/// Theorem: the words of a line mean at most one packet or one error.
 pub fn one_answer()
     ensures { (line : List Word) (one other : Result Packet PacketFault)
         → Says line one → Says line other → one ≡ other }
 {}
 
-/// Theorem: if the words of a line mean a packet, its bytes are a frame, which has 3 to 6 bytes
-/// whose exclusive or is zero.
+/// Theorem: if the words of a line mean a packet, the bytes of this packet are a frame, which has 3
+/// to 6 bytes whose exclusive or is zero.
 pub fn lines_say_frames()
     ensures { LinesSayFrames }
 {}

@@ -12,7 +12,7 @@ use crate::{
 };
 use dcc_wire::Frame;
 
-/// Returns the address of a word: `all`, or `s` or `l` and a number.
+/// Returns the address that a word means. The word is `all`, or `s` or `l` followed by a number.
 ///
 /// Errors: P10 if the word has another form, P11 if the number is malformed or too large, P1 or P2
 /// if the address is out of range.
@@ -40,7 +40,7 @@ pub fn direction(word: &[u8]) -> Result<bool, PacketFault>
     }
 }
 
-/// Returns the speed bits for 28 steps that the word gives as a number.
+/// Returns the speed bits for 28 steps that `word` means as a number.
 ///
 /// Errors: P11 if the word is no number or a number above 255, P8 if the number is above 31.
 pub fn speed28_bits(word: &[u8]) -> Result<SpeedBits28, PacketFault>
@@ -49,7 +49,7 @@ pub fn speed28_bits(word: &[u8]) -> Result<SpeedBits28, PacketFault>
     SpeedBits28::new(small_number(word)?)
 }
 
-/// Returns the speed bits for 128 steps that the word gives as a number.
+/// Returns the speed bits for 128 steps that `word` means as a number.
 ///
 /// Errors: P11 if the word is no number or a number above 255, P8 if the number is above 127.
 pub fn speed128_bits(word: &[u8]) -> Result<SpeedBits128, PacketFault>
@@ -80,7 +80,7 @@ pub fn group(word: &[u8]) -> Result<Group, PacketFault>
     }
 }
 
-/// Returns the bits of `group` that the word gives as a number.
+/// Returns the bits of `group` that `word` means as a number.
 ///
 /// Errors: P11 if the word is no number or a number above 255, P9 if the bits are wider than the
 /// group.
@@ -170,7 +170,7 @@ pub fn signal_number(word: &[u8]) -> Result<SignalAddress, PacketFault>
     SignalAddress::new(number(word)?)
 }
 
-/// Returns the frame whose bytes are these hex digits, in upper or lower case.
+/// Returns the frame whose bytes `word` has as hex digits, in upper or lower case.
 ///
 /// Errors: P12 if the digits form no frame.
 pub fn hex_frame(word: &[u8]) -> Result<Frame, PacketFault>

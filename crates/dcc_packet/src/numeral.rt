@@ -5,7 +5,7 @@ ghost use Rattle.dcc_packet.specs.LineWords.{is_numeral, number, small_number};
 
 use crate::PacketFault;
 
-/// Returns the number that the word gives, at most 65535.
+/// Returns the number that `word` means, at most 65535.
 ///
 /// Errors: P11 if the word is not 1 to 5 decimal digits, or if the number is above 65535.
 pub fn number(word: &[u8]) -> Result<u16, PacketFault>
@@ -20,7 +20,7 @@ pub fn number(word: &[u8]) -> Result<u16, PacketFault>
     Ok(value as u16)
 }
 
-/// Returns the number that the word gives, at most 255.
+/// Returns the number that `word` means, at most 255.
 ///
 /// Errors: P11 if the word is not 1 to 5 decimal digits, or if the number is above 255.
 pub fn small_number(word: &[u8]) -> Result<u8, PacketFault>

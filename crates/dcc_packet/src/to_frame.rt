@@ -18,9 +18,9 @@ use dcc_wire::Frame;
 type Bytes = ArrayVec<u8, 6>;
 
 impl Packet {
-    /// Returns the frame that encodes the packet: the bytes of the row that has this packet, and
-    /// the error byte (NMRA S-9.2.1; RCN-211 to RCN-214). `Packet::read` returns the packet for
-    /// this frame.
+    /// Returns the frame that encodes the packet. The frame has the bytes of the row of the packet
+    /// in the table of packets, and the error byte (NMRA S-9.2.1; RCN-211 to RCN-214).
+    /// `Packet::read` returns the packet for this frame.
     // (not inlined, since a caller with the inlined code would load each field of the packet before
     // it knows the kind of the packet)
     #[inline(never)]
@@ -46,7 +46,7 @@ impl Packet {
     }
 }
 
-/// Returns the frame of these bytes, followed by their error byte.
+/// Returns the frame that consists of `bytes` and their error byte.
 fn with_error_byte(bytes: &[u8]) -> Frame
     requires long_enough { 2 ≤ length bytes.now }
     requires fits { length bytes.now ≤ 5 }

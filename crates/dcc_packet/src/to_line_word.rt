@@ -30,7 +30,7 @@ pub(crate) fn put_number(line: &mut Line, number: u16)
     put_digits(line, number);
 }
 
-/// Appends the decimal digits of `number`. The contract bounds the digits by five bytes.
+/// Appends the decimal digits of `number`. The contract says that there are at most five digits.
 #[tactic(auto, using(crate::proofs::Decimal::short))]
 fn put_bound_digits(line: &mut Line, number: u16)
     requires { array_string_len line.old + 5 ≤ 40 }

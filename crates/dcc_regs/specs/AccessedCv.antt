@@ -18,8 +18,8 @@ changed_cv (Byte cv value) = cv
 changed_cv (OneBit cv place one) = cv
 
 -- the CV that a locomotive decoder with the active address `active` and the pending write `pending`
--- accesses when it applies packet `p`: the CV of a write that takes effect. It is `None` for all
--- other packets, which need only CV29.
+-- accesses when it applies packet `p`. If `p` is a write that takes effect, this is the CV of `p`.
+-- The result is `None` for all other packets, which need only CV29.
 abbrev pub accessed_cv : Option Address → Option Packet → Packet → Option CvNumber
 accessed_cv active pending p =
     if hears (LocoWho active) p && is_effective (Some (PendingValue pending)) p then option_map changed_cv (change_of p)

@@ -12,7 +12,7 @@ abbrev pub asks_for_long : (ℕ → ℕ) → Bool
 asks_for_long cvs = is_one (cvs 29) 5 && nat_le 192 (cvs 17) && nat_le (cvs 17) 231
 
 -- the long address in CV17 and CV18 if `cvs` select a long address, otherwise the short address in
--- CV1. It is `None` if these CVs have no address of this kind.
+-- CV1. The result is `None` if these CVs have no address of this kind.
 abbrev pub active_address : (ℕ → ℕ) → Option Address
 active_address cvs =
     if asks_for_long cvs then result_ok (long_of ((cvs 17 - 192) * 256 + cvs 18)) else result_ok (short_of (cvs 1))

@@ -17,7 +17,7 @@ where_one mask value n = if is_one mask n then Some value else None
 abbrev pub masked_bit : ℕ → ℕ → ℕ → Option Bool
 masked_bit mask bits n = where_one mask (is_one bits n) n
 
--- the value to which the effects `e` set a register, or `None` if they do not set it
+-- the value to which the effects `e` set a register, or `None` if `e` do not set this register
 abbrev pub effect_on : Effects → Register → Option Value
 effect_on e SpeedRegister = option_map SpeedValue e.speed
 effect_on e Direction = option_map Forward e.direction

@@ -12,7 +12,7 @@ use Rattle.dcc_regs.specs.declared.register.SpeedMode.{SpeedMode}
 use Rattle.dcc_regs.specs.declared.register.SpeedMode.TheVariants.{Steps14, Steps28}
 use Rattle.dcc_packet.specs.Bits.{is_one}
 
--- the number of the function in the lowest bit of a function group. It is 1 for group F0.
+-- the number of the function in the lowest bit of a function group. The result is 1 for group F0.
 abbrev pub first_function : Group → ℕ
 first_function F0 = 1
 first_function F5 = 5
@@ -39,8 +39,8 @@ count_of F45 = 8
 count_of F53 = 8
 count_of F61 = 8
 
--- the place of F0 in the bits of `group` in speed mode `mode`. Only group F0 has it, and only with
--- 28 steps: with 14 steps F0 is in the speed instruction.
+-- the place of F0 in the bits of `group` in speed mode `mode`. F0 has a place only in group F0 with
+-- 28 steps. With 14 steps F0 is a bit of the speed instruction.
 abbrev pub place_of_f0 : SpeedMode → Group → Option ℕ
 place_of_f0 Steps28 F0 = Some 4
 place_of_f0 mode group = None
@@ -59,8 +59,8 @@ function_place mode group n =
 abbrev pub group_bit : SpeedMode → GroupBits → ℕ → Option Bool
 group_bit mode bits n = option_map (is_one bits.bits) (function_place mode bits.group n)
 
--- the value to which a packet sets function `n`, true for on. It is `None` if the packet does not
--- set this function. With 14 steps, bit C of a speed instruction is F0.
+-- the value to which a packet sets function `n`, true for on. The result is `None` if the packet
+-- does not set this function. With 14 steps, bit C of a speed instruction is F0.
 abbrev pub function_set : SpeedMode → Packet → ℕ → Option Bool
 function_set mode (ToLoco to Reset) n = if nat_le n 68 then Some false else None
 function_set mode (ToLoco Broadcast (Speed28 forward bits)) n = None

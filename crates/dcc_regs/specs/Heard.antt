@@ -45,8 +45,8 @@ abbrev pub is_full_reset : Address → What → Bool
 is_full_reset Broadcast Reset = true
 is_full_reset x what = false
 
--- true if the decoder hears the packet. Locomotive decoders hear other packets to their address,
--- and accessory decoders hear no other packets. All accessory decoders hear packets to board 511
+-- true if the decoder hears the packet. Locomotive decoders hear `Other` packets to their address,
+-- and accessory decoders hear no `Other` packets. All accessory decoders hear packets to board 511
 -- and to signal 2047. No accessory decoder has the signals 2044 to 2046.
 abbrev pub hears : Who → Packet → Bool
 hears (Loco active) p = is_sent_to active (spelling p)

@@ -22,8 +22,8 @@ use Rattle.dcc_regs.specs.Result.{RegisterMap, HasHeard, result, step}
 use Rattle.dcc_regs.specs.Notes.{Note, note_of, packet_told}
 use Rattle.dcc_regs.specs.Setting.{mode_in, set_from, value_over}
 
--- the result of the list `first ++ second` is the result of `second` from those registers at its
--- start that are the result of `first`
+-- the result of the list `first ++ second` can be computed in two steps. The result of `second`
+-- then starts with the registers that are the result of `first`.
 abbrev pub ResultInParts : Type 0
 ResultInParts =
     (who : Who) (start : RegisterMap) (first second : List Packet)
@@ -42,7 +42,7 @@ OneMorePacketHeard =
     → who'' ≡ who' → after ≡ step who' now p → HasHeard (l ++ p ∷ []) who start who'' after
 
 -- if a heard packet `p` changes the content of an accessory decoder from `d` to `d'`, the registers
--- in `d'` are those in `d` after `p`
+-- of `d'` are the registers of `d` after one step with `p`
 abbrev pub BoardsTakePackets : Type 0
 BoardsTakePackets =
     (who : Who) (p : Packet) (d d' : BoardContent) (is_heard : Bool) → is_heard ≡ hears who p → is_heard ≡ true

@@ -86,7 +86,7 @@ abbrev pub is_byte_write : Packet → Bool
 is_byte_write p = change_fits (change_of p)
 
 -- true if a decoder with the address `active` can have this pending write: `None`, or an own write
--- of a byte that it hears
+-- of a byte that the decoder hears
 abbrev pub is_pending_for : Option Address → Option Packet → Bool
 is_pending_for active None = true
 is_pending_for active (Some p) = is_own_write p && is_byte_write p && hears (LocoWho active) p

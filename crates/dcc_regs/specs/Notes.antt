@@ -59,8 +59,8 @@ is_speed_instruction x = false
 abbrev pub told_if : Bool → Address → What → Option Packet
 told_if of_its_kind to what = if of_its_kind then Some (ToLoco to what) else None
 
--- the packet of which a callback notifies, or `None` if the callback has an instruction of another
--- kind
+-- the packet of which a callback notifies, or `None` if the callback has an instruction for which a
+-- listener has another callback
 abbrev pub packet_told : Note → Option Packet
 packet_told IdleCall = Some Idle
 packet_told (ResetCall to) = Some (ToLoco to Reset)

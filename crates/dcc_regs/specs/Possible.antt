@@ -1,5 +1,5 @@
--- The possible identities and registers of decoders, which are exactly those that `restore`
--- accepts.
+-- The possible identities and registers of decoders. The function `restore` accepts exactly the
+-- states with possible identities and registers.
 use Rattle.std.specs.Prelude.{◌≡◌, Bool, true, false, not, ◌&&◌, nat_le, Option, None, Some}
 use Rattle.dcc_regs.specs.declared.register.Who.{Who}
 use Rattle.dcc_regs.specs.declared.register.Who.TheVariants.{Loco as LocoWho, Board as BoardWho}
@@ -21,8 +21,8 @@ abbrev pub is_decoder : Who → Bool
 is_decoder (LocoWho active) = is_active active
 is_decoder (BoardWho own) = nat_le own.number 510
 
--- true if register `r` of a decoder can have this value; `None` means that the decoder does not
--- have the register
+-- true if register `r` of a decoder can have the given value. The value `None` means that the
+-- decoder does not have the register.
 abbrev pub may_hold : Who → Register → Option Value → Bool
 may_hold (LocoWho active) SpeedRegister (Some (SpeedValue speed)) = is_speed speed
 may_hold (LocoWho active) Direction (Some (Forward forward)) = true

@@ -18,7 +18,8 @@ use Rattle.dcc_regs.specs.Heard.{heard}
 use Rattle.dcc_regs.specs.Sets.{sets}
 use Rattle.dcc_regs.specs.Writes.{is_own_write, bit_set}
 
--- the values of all registers of a decoder; `None` for a register that the decoder does not have
+-- the values of all registers of a decoder. A register that the decoder does not have has the value
+-- `None`.
 abbrev pub RegisterMap : Type 0
 RegisterMap = Register → Option Value
 
@@ -32,8 +33,8 @@ last_or start (v ∷ vs) = last_or v vs
 abbrev pub set_in_turn : Option Value → List Value → Option Value
 set_in_turn start vs = option_map (λ v. last_or v vs) start
 
--- each packet of a list, as a pair with the packets before it; `before` are the packets before the
--- list
+-- each packet of a list, as a pair with the packets before it. The packets `before` come before the
+-- list.
 abbrev pub places_from : List Packet → List Packet → List (List Packet × Packet)
 places_from before [] = []
 places_from before (p ∷ ps) = (before, p) ∷ places_from (before ++ p ∷ []) ps
@@ -66,8 +67,8 @@ is_pending held p = false
 abbrev pub is_effective : Option Value → Packet → Bool
 is_effective held p = is_own_write p && is_pending held p
 
--- the value to which `p` sets bit `place` of CV `cv`. It is `None` if `p` does not write this bit,
--- or if the write does not take effect.
+-- the value to which `p` sets bit `place` of CV `cv`. The result is `None` if `p` does not write
+-- this bit, or if the write does not take effect.
 abbrev pub effective_set : Option Value → Packet → ℕ → ℕ → Option Value
 effective_set held p cv place = if is_effective held p then option_map Flag (bit_set p cv place) else None
 

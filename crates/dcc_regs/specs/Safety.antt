@@ -1,5 +1,5 @@
--- Theorems on the safety of locomotives and of their CVs. They are about packets on the main track
--- with no power-up between them.
+-- Theorems on the safety of locomotives and of their CVs. The theorems are about packets on the
+-- main track, with no power-up between the packets.
 use Rattle.std.specs.Prelude.{◌≡◌, ◌≢◌, ℕ, Bool, true, false, not, ◌&&◌, ◌||◌, Option, None, Some, is_some}
 use Rattle.std.specs.Prelude.{List, [], ◌∷◌, ◌++◌}
 use Rattle.std.specs.List.{list_any}
@@ -53,23 +53,24 @@ can_have_step (ToLoco to (Speed28 forward bits)) = true
 can_have_step (ToLoco to (Speed128 forward bits)) = true
 can_have_step p = false
 
--- if the speed in the registers `start` is a stop, it is a stop after `packets`, provided that the
--- decoder hears no packet among them that sets the speed to a step
+-- let the speed in the registers `start` be a stop. If the decoder hears no packet of `packets`
+-- that sets the speed to a step, the speed is a stop after `packets`.
 abbrev pub StandingLocoStands : Type 0
 StandingLocoStands =
     (who : Who) (start : RegisterMap) (packets : List Packet) → list_any can_move (heard who packets) ≡ false
     → is_standing (start SpeedRegister) ≡ true → is_standing (result who start packets SpeedRegister) ≡ true
 
--- if the speed in the registers `start` is a stop, it is a stop after `packets`, provided that the
--- decoder hears no speed packet to its own address among them, and no speed packet of 128 steps to
--- all locomotives
+-- let the speed in the registers `start` be a stop. Let the decoder hear in `packets` no speed
+-- packet to its own address and no speed packet of 128 steps to all locomotives. Then the speed is
+-- a stop after `packets`.
 abbrev pub OnlySpeedPacketsMove : Type 0
 OnlySpeedPacketsMove =
     (who : Who) (start : RegisterMap) (packets : List Packet) → list_any can_have_step (heard who packets) ≡ false
     → is_standing (start SpeedRegister) ≡ true → is_standing (result who start packets SpeedRegister) ≡ true
 
--- after the packets `before`, the heard packet `stop` and the packets `later`, the speed of a
--- locomotive is a stop, if no heard packet of `later` sets the speed to a step
+-- let a decoder get the packets `before`, the heard packet `stop` and the packets `later`. If no
+-- heard packet of `later` sets the speed to a step, the speed of the locomotive is a stop at the
+-- end.
 abbrev pub LastStopStops : Type 0
 LastStopStops =
     (who : Who) (start : RegisterMap) (before : List Packet) (stop : Packet) (later : List Packet)
@@ -106,15 +107,15 @@ pub record SetByTwoCopies (who : Who) (start : RegisterMap) (packets : List Pack
   pub sets : bit_set write n k ≡ Some value
   pub now : result who start packets (CvBit n k) ≡ Some (Flag value)
 
--- if `packets` change bit k of CV n, an own write among them sets this bit while an equal write is
--- pending
+-- if `packets` change bit k of CV n, they contain a heard own write that sets this bit while an
+-- equal write is pending
 abbrev pub CvsChangeByWrites : Type 0
 CvsChangeByWrites =
     (who : Who) (start : RegisterMap) (packets : List Packet) (n k : ℕ)
     → result who start packets (CvBit n k) ≢ start (CvBit n k) → SetByWrite who start packets n k
 
--- if no write is pending in the registers `start` and `packets` change bit k of CV n, two copies of
--- an own write among them set this bit
+-- let no write be pending in the registers `start`, and let `packets` change bit k of CV n. Then
+-- `packets` contain two heard copies of an own write that set this bit.
 abbrev pub CvsChangeByTwoCopies : Type 0
 CvsChangeByTwoCopies =
     (who : Who) (start : RegisterMap) (packets : List Packet) (n k : ℕ)

@@ -35,18 +35,18 @@ sets mode (ToLoco Broadcast (Speed28 forward bits)) SpeedRegister = option_map S
 sets mode (ToLoco Broadcast (Speed28 forward bits)) Direction =
     if bits.bits == 0 || bits.bits == 2 then Some (Forward forward) else None
 sets mode (ToLoco Broadcast (Speed28 forward bits)) r = None
--- a speed; with 14 steps, bit C is F0
+-- a speed. With 14 steps, bit C is F0.
 sets Steps28 (ToLoco to (Speed28 forward bits)) SpeedRegister = Some (SpeedValue (speed_of_28 bits.bits))
 sets Steps14 (ToLoco to (Speed28 forward bits)) SpeedRegister = Some (SpeedValue (speed_of_14 bits.bits))
 sets Steps14 (ToLoco to (Speed28 forward bits)) (Function n) = if n == 0 then Some (Flag (bits.bits % 2 == 1)) else None
 sets mode (ToLoco to (Speed28 forward bits)) Direction = Some (Forward forward)
 sets mode (ToLoco to (Speed128 forward bits)) SpeedRegister = Some (SpeedValue (speed_of_126 bits.bits))
 sets mode (ToLoco to (Speed128 forward bits)) Direction = Some (Forward forward)
--- functions and binary states; state 0 stands for the states 1 to 127
+-- functions and binary states. State 0 stands for the states 1 to 127.
 sets mode (ToLoco to (Functions bits)) (Function n) = option_map Flag (group_bit mode bits n)
 sets mode (ToLoco to (BinaryState state on)) (StateRegister n) =
     if (nat_le 1 n && nat_le n 127) && (state.number == 0 || n == state.number) then Some (Flag on) else None
--- outputs, pairs of outputs and signals; signal 2047 stands for all signals
+-- outputs, pairs of outputs and signals. Signal 2047 stands for all signals.
 sets mode (Accessory board output on) (Out n) = if n == output.number then Some (Flag on) else None
 sets mode (Accessory board output true) (Position n) =
     if n == output.number / 2 then Some (side (output.number % 2 == 1)) else None

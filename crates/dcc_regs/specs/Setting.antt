@@ -15,8 +15,8 @@ use Rattle.dcc_regs.specs.Result.{RegisterMap, left_pending, effective_set, mode
 abbrev pub mode_in : RegisterMap → SpeedMode
 mode_in m = mode_of (m (CvBit 29 1))
 
--- the value to which a heard packet `p` sets a register, if `m` are the registers before it, or
--- `None` if `p` does not set it
+-- the value to which a heard packet `p` sets a register, or `None` if `p` does not set this
+-- register. The registers before `p` are `m`.
 abbrev pub set_from : RegisterMap → Packet → Register → Option Value
 set_from m p PendingRegister = Some (PendingValue (left_pending p))
 set_from m p (CvBit cv place) = effective_set (m PendingRegister) p cv place

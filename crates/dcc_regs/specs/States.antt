@@ -21,13 +21,13 @@ abbrev pub turned_states : Packet → Option (ℕ × Bool)
 turned_states (ToLoco to what) = states_in what
 turned_states x = None
 
--- the value to which a pair of a state number and a value sets binary state `n`, or `None` if it
--- does not set state `n`
+-- the value to which a pair of a state number and a value sets binary state `n`, or `None` if the
+-- pair does not set state `n`
 abbrev pub state_by : Option (ℕ × Bool) → ℕ → Option Bool
 state_by None n = None
 state_by (Some told) n = if is_binary_state n && (told.0 == 0 || n == told.0) then Some told.1 else None
 
--- the value to which packet `p` sets binary state `n`, or `None` if it does not set it. The speed
--- mode does not matter, and packets to the broadcast address set states too.
+-- the value to which packet `p` sets binary state `n`, or `None` if `p` does not set state `n`. The
+-- speed mode does not matter, and packets to the broadcast address set states too.
 abbrev pub state_set : Packet → ℕ → Option Bool
 state_set p n = state_by (turned_states p) n

@@ -37,8 +37,8 @@ abbrev pub is_own_write : Packet → Bool
 is_own_write (ToLoco Broadcast what) = false
 is_own_write p = is_some (change_of p)
 
--- the value to which a change sets bit `k` of CV `n`, or `None` if it does not set this bit or the
--- CV is read-only
+-- the value to which a change sets bit `k` of CV `n`, or `None` if the change does not set this bit
+-- or the CV is read-only
 abbrev pub bit_by : Option CvChange → ℕ → ℕ → Option Bool
 bit_by None n k = None
 bit_by (Some (Byte cv value)) n k = if n == cv.number && not (is_read_only cv.number) then Some
@@ -46,7 +46,7 @@ bit_by (Some (Byte cv value)) n k = if n == cv.number && not (is_read_only cv.nu
 bit_by (Some (OneBit cv place one)) n k =
     if n == cv.number && k == place.place && not (is_read_only cv.number) then Some one else None
 
--- the value to which packet `p` sets bit `k` of CV `n` when it takes effect, or `None` if it does
+-- the value to which packet `p` sets bit `k` of CV `n` when `p` takes effect, or `None` if `p` does
 -- not set this bit
 abbrev pub bit_set : Packet → ℕ → ℕ → Option Bool
 bit_set p n k = bit_by (change_of p) n k

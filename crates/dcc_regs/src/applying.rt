@@ -23,7 +23,7 @@ pub fn apply_all<D: Decoder>(decoder: &mut D, packets: &[Packet])
 }
 
 /// Applies a packet to a decoder. If the decoder hears the packet, the function notifies the
-/// listener of it.
+/// listener of this packet.
 pub fn apply_and_announce<D: Decoder, N: Notify>(decoder: &mut D, packet: &Packet, listener: &mut N)
     ensures { IsHeardAndTold N.told packet.now (D.who decoder.old) (D.registers decoder.old) (D.who decoder.new)
         (D.registers decoder.new) listener.old listener.new }

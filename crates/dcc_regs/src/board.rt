@@ -48,7 +48,7 @@ impl BoardDecoder {
         }
     }
 
-    /// Creates the decoder with this state.
+    /// Creates the decoder with the state `state`.
     ///
     /// Errors: P3 if the address is 511, which is the broadcast.
     pub fn restore(state: &BoardState) -> Result<BoardDecoder, PacketFault>

@@ -11,14 +11,16 @@ use crate::hearers::heard_together;
 use crate::register::SpeedMode;
 use dcc_packet::Packet;
 
-/// Returns true if, in speed mode `mode`, the packets set a register to different values.
+/// Returns true if, in speed mode `mode`, the packets `p` and `q` set a register to different
+/// values.
 fn differ_in(mode: SpeedMode, p: &Packet, q: &Packet) -> bool
     ensures { IsTrue result ↔ DifferIn mode p.now q.now }
 {
     Effects::of(p, mode).differs_from(&Effects::of(q, mode))
 }
 
-/// Returns true if, in one of the two speed modes, the packets set a register to different values.
+/// Returns true if, in one of the two speed modes, the packets `p` and `q` set a register to
+/// different values.
 fn differ_in_some_mode(p: &Packet, q: &Packet) -> bool
     ensures { IsTrue result ↔ ((mode : SpeedMode) × DifferIn mode p.now q.now) }
 {
@@ -26,15 +28,16 @@ fn differ_in_some_mode(p: &Packet, q: &Packet) -> bool
 }
 
 /// Returns true if two packets conflict: some decoder hears both packets and, in one of the two
-/// speed modes, they set a register to different values. A CV access conflicts with no packet.
+/// speed modes, the packets set a register to different values. A CV access conflicts with no
+/// packet.
 pub fn conflict(p: &Packet, q: &Packet) -> bool
     ensures { IsTrue result ↔ Conflict p.now q.now }
 {
     heard_together(p, q) && differ_in_some_mode(p, q)
 }
 
-/// Returns true if, in both speed modes, a packet sets no register to a constant. If the result is
-/// true, the packet conflicts with no packet.
+/// Returns true if, in both speed modes, a packet sets no plain register. Such a packet conflicts
+/// with no packet.
 pub fn sets_nothing(packet: &Packet) -> bool
     ensures { IsTrue result ↔ SetsNothing packet.now }
 {

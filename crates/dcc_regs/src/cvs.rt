@@ -13,8 +13,8 @@ use crate::register::SpeedMode;
 use crate::writes::is_repeated_write;
 use dcc_packet::{Address, Packet, What, cv_value, write_cv};
 
-/// Returns the active address that a decoder with these CVs has after power-up. Returns `None` if
-/// these CVs give no address.
+/// Returns the active address that a decoder with the CVs `cvs` has after power-up. Returns `None`
+/// if these CVs contain no address.
 pub fn active_address(cvs: &[u8; 1024]) -> Option<Address>
     ensures address { result ≡ address_at (cv_in cvs.now) }
     ensures active { is_active result ≡ true }
@@ -23,7 +23,7 @@ pub fn active_address(cvs: &[u8; 1024]) -> Option<Address>
 }
 
 /// Returns the active address that a decoder has after power-up, if CV1, CV17, CV18 and CV29 have
-/// these values. Returns `None` if these CVs give no address.
+/// the values of the parameters. Returns `None` if these CVs contain no address.
 pub fn address_of_cvs(cv1: u8, cv17: u8, cv18: u8, cv29: u8) -> Option<Address>
     ensures address { (cvs : ℕ → ℕ) → HaveAddress cvs cv1 cv17 cv18 cv29 → result ≡ address_at cvs }
     ensures active { is_active result ≡ true }
@@ -47,8 +47,8 @@ pub fn bit(cvs: &[u8; 1024], cv: u16, place: u8) -> Option<bool>
     }
 }
 
-/// Executes a heard packet that is the second copy of the own write `pending`: writes its CV, or
-/// its bit of a CV. Another packet changes no CV.
+/// Executes a heard packet that is the second copy of the own write `pending`. The function writes
+/// the CV, or the bit of a CV, that the packet names. Any other packet changes no CV.
 pub fn hear(cvs: &mut [u8; 1024], pending: &Option<Packet>, packet: &Packet)
     ensures { (cv place : ℕ) → 1 ≤ cv → place ≤ 7
         → is_one (cv_in cvs.new cv)
@@ -86,7 +86,7 @@ fn write(cvs: &mut [u8; 1024], packet: &Packet)
     }
 }
 
-/// Returns the mode in which a decoder with these CVs reads speed instructions.
+/// Returns the mode in which a decoder with the CVs `cvs` reads speed instructions.
 pub fn mode(cvs: &[u8; 1024]) -> SpeedMode
     ensures { result ≡ mode_of (Some (Flag (is_one (cv_in cvs.now 29) 1))) }
 {

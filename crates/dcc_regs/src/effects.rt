@@ -18,7 +18,7 @@ use crate::states::states_set;
 use dcc_packet::Packet;
 
 /// The effects of a packet on the decoders that hear it: the registers that the packet sets, with
-/// their values. The bits of the CVs and the pending write are not in it.
+/// their values. The effects do not include the bits of the CVs and the pending write.
 #[derive(Clone, Copy)]
 pub struct Effects {
     /// The speed, or `None` if the packet sets no speed.
@@ -79,14 +79,14 @@ impl Effects {
             || self.aspects.differs_from(&other.aspects)
     }
 
-    /// Returns true if no register is set.
+    /// Returns true if the effects set no register.
     pub fn is_nothing(&self) -> bool
         ensures { IsTrue result ↔ ((r : Register) → effect_on self.now r ≡ None) }
     {
         self.is_nothing_at_locos() && self.is_nothing_at_boards()
     }
 
-    /// Returns true if no register of locomotive decoders is set.
+    /// Returns true if the effects set no register of locomotive decoders.
     fn is_nothing_at_locos(&self) -> bool
         ensures { IsTrue result ↔ NothingAtLocos self.now }
     {
@@ -96,7 +96,7 @@ impl Effects {
             && self.states.is_nothing()
     }
 
-    /// Returns true if no register of accessory decoders is set.
+    /// Returns true if the effects set no register of accessory decoders.
     fn is_nothing_at_boards(&self) -> bool
         ensures { IsTrue result ↔ NothingAtBoards self.now }
     {

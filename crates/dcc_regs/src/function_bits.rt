@@ -1,4 +1,5 @@
-//! Functions that say which functions a packet turns on and off (RCN-212, NMRA S-9.2.1).
+//! Functions that return the functions of a decoder that a packet turns on and off (RCN-212, NMRA
+//! S-9.2.1).
 
 ghost use Rattle.std.specs.Prelude.{◌≡◌, ℕ, ◌≤◌, ◌^◌, ◌-◌, Some, None, if◌then◌else◌};
 ghost use Rattle.dcc_regs.specs.Effects.{masked_bit};
@@ -38,14 +39,14 @@ pub fn ones_of(group: Group) -> u8
     }
 }
 
-/// Returns true if a bit of a group is F0.
+/// Returns true if a bit of `group` is F0 in speed mode `mode`.
 fn has_f0(mode: SpeedMode, group: Group) -> bool
     ensures { table.place_of_f0 mode group ≡ (if result then Some 4 else None) }
 {
     matches!((mode, group), (SpeedMode::Steps28, Group::F0))
 }
 
-/// Returns the functions that the bits of a group set.
+/// Returns the functions that `bits`, the bits of a function group, set in speed mode `mode`.
 #[inline(always)]
 fn group_set(mode: SpeedMode, bits: GroupBits) -> Masked
     ensures { (n : ℕ) → masked_bit result.mask result.bits n ≡ table.group_bit mode bits n }

@@ -10,8 +10,8 @@ ghost use Rattle.dcc_regs.specs.Heard.{hears as is_heard_by};
 
 use dcc_packet::Address;
 
-/// Returns true if a locomotive decoder with the address `active` hears the packet of the frame.
-/// The function reads only the address bytes.
+/// Returns true if a locomotive decoder with the address `active` hears the packet of the frame
+/// `frame`. The function reads only the address bytes.
 #[inline(always)]
 pub fn loco_hears_frame(active: &Option<Address>, frame: &[u8]) -> bool
     requires { IsFrame frame.now }

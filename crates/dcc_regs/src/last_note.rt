@@ -8,8 +8,8 @@ use dcc_packet::{
 };
 use std::marker::Model;
 
-/// A listener that stores the last packet of which it was notified. A callback whose instruction is
-/// of another kind changes nothing.
+/// A listener that stores the last packet of which it was notified. A callback that gets an
+/// instruction of the wrong kind changes nothing.
 #[derive(Drop)]
 pub struct LastNote {
     last: Option<Packet>,

@@ -8,8 +8,8 @@ ghost use Rattle.dcc_regs.specs.Laws.{PacketsAreDecided, ResultInParts, StepSets
 ghost use Rattle.dcc_regs.specs.Safety.{CvsChangeByTwoCopies, CvsChangeByWrites, CvsStayWithoutWrites};
 ghost use Rattle.dcc_regs.specs.Safety.{LastStopStops, OnlySpeedPacketsMove, ReadOnlyCvsStay, StandingLocoStands};
 
-/// Theorem: the result of a list is the result of its second part, computed from the result of its
-/// first part.
+/// Theorem: the result of a list can be computed in two parts. The result of the first part is then
+/// the start of the second part.
 pub fn result_in_parts()
     ensures { ResultInParts }
 {}
@@ -20,7 +20,7 @@ pub fn no_packet_heard()
 {}
 
 /// Theorem: a decoder that has heard a list of packets, and then one more packet, has heard the
-/// list with this packet at its end. The contract of `apply` provides the premise about this
+/// list with this packet at its end. The contract of `apply` provides the premise about the last
 /// packet.
 pub fn one_more_packet_heard()
     ensures { OneMorePacketHeard }
@@ -93,8 +93,8 @@ pub fn values_are_decided()
 {}
 
 /// Theorem: a locomotive decoder that stands still keeps standing if it hears no packet for which
-/// `can_move` is true. So it keeps standing if it hears no speed packet to its own address and no
-/// speed packet of 128 steps to all locomotives.
+/// `can_move` is true. So the decoder keeps standing if it hears no speed packet to its own address
+/// and no speed packet of 128 steps to all locomotives.
 pub fn standing_loco_stands()
     ensures stands { StandingLocoStands }
     ensures movers { OnlySpeedPacketsMove }

@@ -34,7 +34,7 @@ impl LocoDecoder {
     ghost use Rattle.dcc_regs.specs.LocoRegisters.{with_cvs};
     ghost use Rattle.dcc_regs.specs.LocoState.{is_state, loco_map, loco_who};
 
-    /// Creates a locomotive decoder that was powered up with these CVs.
+    /// Creates a locomotive decoder that was powered up with the CVs `cvs`.
     pub fn new(cvs: &[u8; 1024]) -> LocoDecoder
         ensures who { ⟦<LocoDecoder as Decoder>⟧.who result ≡ start_who (cv_in cvs.now) }
         ensures registers { ⟦<LocoDecoder as Decoder>⟧.registers result ≡ start_map (cv_in cvs.now) }
@@ -52,7 +52,7 @@ impl LocoDecoder {
         }
     }
 
-    /// Creates the decoder with this state.
+    /// Creates the decoder with the state `state`.
     ///
     /// Errors: P13 if no decoder can be in this state.
     pub fn restore(state: &LocoState) -> Result<LocoDecoder, PacketFault>
@@ -86,8 +86,7 @@ impl LocoDecoder {
         self.registers().with_cvs(&self.cvs)
     }
 
-    /// Powers the decoder up: it becomes the decoder that `new` creates with the CVs of this
-    /// decoder.
+    /// Powers the decoder up: the decoder becomes the decoder that `new` creates with its CVs.
     pub fn power_up(&mut self)
         ensures who { ⟦<LocoDecoder as Decoder>⟧.who self.new ≡ start_who
             (cv_held (⟦<LocoDecoder as Decoder>⟧.registers self.old)) }

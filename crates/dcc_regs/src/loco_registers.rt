@@ -51,7 +51,7 @@ impl LocoRegisters {
     ghost use Rattle.dcc_regs.specs.Result.{left_pending, step};
     ghost use Rattle.dcc_regs.specs.Setting.{set_from};
 
-    /// Creates the registers of a decoder that was powered up with these CVs.
+    /// Creates the registers of a decoder that was powered up with the CVs `cvs`.
     pub fn new(cvs: &[u8; 1024]) -> LocoRegisters
         ensures possible { is_state (with_cvs result cvs.now) ≡ true }
         ensures who { loco_who (with_cvs result cvs.now) ≡ start_who (cv_in cvs.now) }
@@ -61,8 +61,8 @@ impl LocoRegisters {
         LocoRegisters::powered_up(cvs[0], cvs[16], cvs[17], cvs[28])
     }
 
-    /// Creates the registers of a decoder that was powered up, if CV1, CV17, CV18 and CV29 have
-    /// these values. No other CV matters.
+    /// Creates the registers of a decoder that was powered up, if CV1, CV17, CV18 and CV29 have the
+    /// given values. No other CV matters.
     pub fn powered_up(cv1: u8, cv17: u8, cv18: u8, cv29: u8) -> LocoRegisters
         ensures possible { (cvs : List ℕ) → is_state (with_cvs result cvs) ≡ true }
         ensures who { (cvs : List ℕ) → HaveAddress (cv_in cvs) cv1 cv17 cv18 cv29
@@ -91,7 +91,7 @@ impl LocoRegisters {
             && is_pending_for(&self.address, &self.pending)
     }
 
-    /// Returns the state of a decoder with these registers and these CVs.
+    /// Returns the state of a decoder with these registers and the CVs `cvs`.
     pub fn with_cvs(&self, cvs: &[u8; 1024]) -> LocoState
         ensures { result ≡ with_cvs self.now cvs.now }
     {
@@ -106,9 +106,9 @@ impl LocoRegisters {
         }
     }
 
-    /// Applies one packet to a decoder with these registers and these CVs. The function writes at
-    /// most one CV. Returns true if the decoder hears the packet. If the decoder does not hear the
-    /// packet, nothing changes.
+    /// Applies one packet to a decoder with these registers and the CVs `cvs`. The function writes
+    /// at most one CV. Returns true if the decoder hears the packet. If the decoder does not hear
+    /// the packet, nothing changes.
     // not inlined, so that the numbers of 128 bits do not take space on the stack of each caller
     #[inline(never)]
     pub fn apply(&mut self, cvs: &mut [u8; 1024], packet: &Packet) -> bool

@@ -27,7 +27,7 @@ impl PackedLoco {
     ghost use Rattle.dcc_regs.specs.Loco.{cv_held, powered_up, start_map, start_who};
     ghost use Rattle.dcc_regs.specs.LocoState.{is_state, loco_map, loco_who};
 
-    /// Creates a locomotive decoder that was powered up with these CVs.
+    /// Creates a locomotive decoder that was powered up with the CVs `cvs`.
     pub fn new(cvs: &[u8; 1024]) -> PackedLoco
         ensures who { ⟦<PackedLoco as Decoder>⟧.who result ≡ start_who (cv_in cvs.now) }
         ensures registers { ⟦<PackedLoco as Decoder>⟧.registers result ≡ start_map (cv_in cvs.now) }
@@ -40,7 +40,7 @@ impl PackedLoco {
         }
     }
 
-    /// Creates the decoder with this state.
+    /// Creates the decoder with the state `state`.
     ///
     /// Errors: P13 if no decoder can be in this state.
     pub fn restore(state: &LocoState) -> Result<PackedLoco, PacketFault>
@@ -69,8 +69,7 @@ impl PackedLoco {
         self.registers.with_cvs(&self.cvs)
     }
 
-    /// Powers the decoder up: it becomes the decoder that `new` creates with the CVs of this
-    /// decoder.
+    /// Powers the decoder up: the decoder becomes the decoder that `new` creates with its CVs.
     pub fn power_up(&mut self)
         ensures who { ⟦<PackedLoco as Decoder>⟧.who self.new ≡ start_who
             (cv_held (⟦<PackedLoco as Decoder>⟧.registers self.old)) }

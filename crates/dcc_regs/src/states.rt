@@ -8,8 +8,8 @@ ghost use Rattle.dcc_regs.specs.States as table;
 use crate::masked::Masked;
 use dcc_packet::{Packet, What};
 
-/// Returns a word in which bit n is one if `number` stands for binary state n: the number itself, or
-/// 1 to 127 if the number is 0.
+/// Returns a word in which bit n is one if `number` stands for binary state n. The number 0 stands
+/// for the states 1 to 127, and any other number for the state with this number.
 fn state_mask(number: u8) -> u128
     requires { number ≤ 127 }
     ensures { (n : ℕ) → is_one result n ≡ (table.is_binary_state n && (number == 0 || n == number)) }

@@ -1,5 +1,5 @@
-//! A locomotive decoder whose CVs are stored by the caller, for example in EEPROM. The caller hands
-//! in the value of the one CV that a packet accesses, and gets back the new value.
+//! A locomotive decoder whose CVs are stored by the caller, for example in EEPROM. The caller
+//! passes the value of the one CV that a packet accesses, and gets the new value of this CV.
 
 ghost use Rattle.std.specs.Prelude.{◌≡◌, ℕ, ◌≤◌, ◌<◌, ◌&&◌, Some, None, false, unwrap_or, option_map};
 ghost use Rattle.std.specs.Prelude.{if◌then◌else◌};
@@ -42,9 +42,10 @@ impl LocoRegisters {
 
     /// Applies one packet to a decoder with these registers, whose CVs the caller stores. The
     /// parameter `cv29` is the value of CV29. If the packet accesses a CV, `value` is the value of
-    /// this CV, and the function writes the new value of the CV to `value`, and also to `cv29` if
-    /// the CV is CV29. Otherwise `value` and `cv29` do not change. Returns true if the decoder hears
-    /// the packet. If the decoder does not hear the packet, nothing changes.
+    /// this CV, and the function writes the new value of the CV to `value`. If this CV is CV29, the
+    /// function also writes the new value to `cv29`. If the packet accesses no CV, `value` and
+    /// `cv29` do not change. Returns true if the decoder hears the packet. If the decoder does not
+    /// hear the packet, nothing changes.
     // not inlined, so that the numbers of 128 bits do not take space on the stack of each caller
     #[inline(never)]
     pub fn apply_with_value(&mut self, cv29: &mut u8, value: &mut u8, packet: &Packet) -> bool
@@ -83,9 +84,9 @@ impl LocoRegisters {
     }
 }
 
-/// Executes a heard packet that is the second copy of the own write `pending` on `value`, which is
-/// the value of the CV of the packet. If the CV is CV29, `cv29` gets the new value. Another packet
-/// changes nothing.
+/// Executes a heard packet that is the second copy of the own write `pending`. The parameter
+/// `value` is the value of the CV that the packet names, and gets its new value. If this CV is
+/// CV29, `cv29` gets the new value too. Any other packet changes nothing.
 fn hear(cv29: &mut u8, value: &mut u8, pending: &Option<Packet>, packet: &Packet)
     ensures bits { (cv : CvNumber) (place : ℕ) → option_map changed_cv (change_of packet.now) ≡ Some cv → place ≤ 7
         → is_one value.new place ≡ (if is_effective (Some (PendingValue pending.now)) packet.now
@@ -128,8 +129,8 @@ fn changed_cv(packet: &Packet) -> Option<CvNumber>
     }
 }
 
-/// Executes a CV write on `value`, which is the value of the CV of the packet. CV7 and CV8 never
-/// change. A packet of another kind changes nothing.
+/// Executes a CV write. The parameter `value` is the value of the CV that the packet names, and
+/// gets its new value. CV7 and CV8 never change. A packet of another kind changes nothing.
 fn write_to(value: &mut u8, packet: &Packet)
     ensures other { change_of packet.now ≡ None → value.new ≡ value.old }
     ensures bits { (cv : CvNumber) (place : ℕ) → option_map changed_cv (change_of packet.now) ≡ Some cv → place ≤ 7

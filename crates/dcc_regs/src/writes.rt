@@ -28,8 +28,8 @@ fn is_write(what: &What) -> bool
     }
 }
 
-/// Returns true if the packet is a CV write and no broadcast. Each decoder that hears an own write
-/// has the address of the packet.
+/// Returns true if the packet is an own write, which is a CV write that is no broadcast. Each
+/// decoder that hears an own write has the address of the packet.
 pub fn is_own_write(packet: &Packet) -> bool
     ensures own { result ≡ is_own_write_of packet.now }
     ensures byte { is_byte_write packet.now ≡ true }
@@ -62,8 +62,8 @@ pub fn leave_pending(pending: &mut Option<Packet>, packet: &Packet)
     *pending = own_write(packet);
 }
 
-/// Returns true if a heard packet is a CV write that takes effect, because it is the second copy of
-/// the pending packet.
+/// Returns true if a heard packet is a CV write that takes effect, because the packet is the second
+/// copy of the pending packet.
 pub fn is_repeated_write(pending: &Option<Packet>, packet: &Packet) -> bool
     ensures { result ≡ is_effective (Some (PendingValue pending.now)) packet.now }
 {

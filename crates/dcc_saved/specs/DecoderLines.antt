@@ -1,7 +1,7 @@
 -- The lines of a decoder text. The definition of a line has the values that the line can have, a
 -- rule that parses its words, and a rule that writes its words. The result is the first error from
--- left to right. In a word that must be a number, the error P11 comes first, then the error of a
--- number out of range, then the error P10 of a number out of order.
+-- left to right. In a word that must be a number, the error P11 comes before the error of a number
+-- out of range. The error P10 of a number out of order comes last.
 use Rattle.std.specs.Prelude.{◌≡◌, zero, suc, ℕ, ◌+◌, ◌^◌, ◌/◌, ◌%◌, ◌<◌, ◌==◌, nat_le, nat_lt, true, List, [], ◌∷◌}
 use Rattle.std.specs.Prelude.{◌++◌}
 use Rattle.std.specs.Prelude.{codes, Option, None, Some, Result, Ok, Err, if◌then◌else◌}
@@ -57,7 +57,7 @@ keyed name field = record {
   written = λ x. name ∷ field.written x;
 }
 
--- `Ok` if `n` is at least `least`, otherwise the error P10. So the numbers of a line are in
+-- `Ok` if `n` is at least `least`, otherwise the error P10. The numbers of a line must be in
 -- ascending order.
 abbrev pub in_order : ℕ → ℕ → Result (Unit {0}) PacketFault
 in_order least n = if nat_lt n least then Err faults.Word else Ok tt
@@ -235,8 +235,8 @@ number_word_of kinds.Function word = function_number word
 number_word_of kinds.State word = binary_state word
 number_word_of kinds.Out word = out_number word
 
--- a number with a one bit for the number in each word of a list. The numbers in the words ascend
--- from `least` or a greater number.
+-- a number whose bit n is one if a word of the list is the number n. The numbers in the words must
+-- be in ascending order, and the first number must be at least `least`.
 abbrev pub numbers_from : Numbered → ℕ → List Word → Result ℕ PacketFault
 numbers_from kind least [] = Ok 0
 numbers_from kind least (word ∷ rest) = do
@@ -257,8 +257,8 @@ numbers_of kind line = do
   key ← word_and_rest (keyword (name_of kind)) line
   numbers_from kind 0 key.1
 
--- the line `on FUNCTION ..`, `states STATE ..` or `out OUTPUT ..`. Its value is a number with a one
--- bit for each number in the line. There is no binary state 0.
+-- the line `on FUNCTION ..`, `states STATE ..` or `out OUTPUT ..`. Its value is a number whose bit
+-- n is one if the number n is in the line. There is no binary state 0.
 abbrev pub numbers_line : Numbered → LineOf ℕ
 numbers_line kind = record {
   Fits = λ bits. (bits < 2 ^ end_of kind) × (kind ≡ kinds.State → bits % 2 ≡ 0);
@@ -272,9 +272,9 @@ framed_write active word = do
   packet ← pending_write active frame
   Ok (Some packet)
 
--- the packet in a word PACKET. It is `None` for the word `none`. For another word it is the CV
--- write whose frame is in the word. This write must be one that can be pending in a decoder with
--- the address `active`.
+-- the packet in a word PACKET. The result is `None` for the word `none`. For another word, the
+-- result is the CV write whose frame is in the word. A decoder with the address `active` must be
+-- able to have this write as its pending write.
 abbrev pub pending_word : Option Address → Word → Result (Option Packet) PacketFault
 pending_word active word = if is_word word (codes "none") then Ok None else framed_write active word
 

@@ -19,19 +19,19 @@ use Rattle.dcc_saved.specs.DecoderLines.{version_line, head_line, speed_line, nu
 use Rattle.dcc_saved.specs.DecoderLines.{loco_line, Four, listed, positions_line, aspects_line}
 use Rattle.dcc_saved.specs.TextReader.{Reader, ◌>>=◌, done, stop_at_decoder, line_by}
 
--- the reader that goes on after a line among the lines of CVs. After the line of a CV, its value is
--- set in `cvs`, and `again` reads the next line. Any other line ends the CVs.
+-- the reader after a line among the lines of CVs. After the line of a CV, the value of this CV is
+-- set in `cvs`, and the reader `again` continues with the next line. Any other line ends the CVs.
 abbrev pub behind_loco_line : (ℕ → List ℕ → Reader (List ℕ × Head)) → List ℕ → LocoLine → Reader (List ℕ × Head)
 behind_loco_line again cvs (behind.Cv cv value) = again (cv.number + 1) (slice_set cvs (cv.number - 1) value)
 behind_loco_line again cvs (behind.Head head) = done (cvs, head)
 
--- the reader of the lines of CVs from CV `least` on, in ascending order, and of the line that
--- follows them. It sets the values in `cvs`. It reads at most `most` lines of CVs.
+-- the reader of the lines of CVs from CV `least` on, in ascending order, and of the line after
+-- these lines. The reader sets the values in `cvs`, and reads at most `most` lines of CVs.
 abbrev pub cvs_from : ℕ → ℕ → List ℕ → Reader (List ℕ × Head)
 cvs_from zero least cvs = stop_at_decoder
 cvs_from (suc most) least cvs = line_by (loco_line least) >>= behind_loco_line (cvs_from most) cvs
 
--- the reader of the lines of CV1 to CV1024, and of the line that follows them. A CV without a line
+-- the reader of the lines of CV1 to CV1024, and of the line after these lines. A CV without a line
 -- has the value 0.
 unfoldable pub cvs_lines : Reader (List ℕ × Head)
 cvs_lines = cvs_from 1025 1 (replicate 1024 0)

@@ -8,7 +8,7 @@ use Rattle.dcc_packet.specs.Written.{words_in_line}
 pub record LineOf (A : Type 0) : Type 1 where
   -- the values that the line can have
   pub Fits : A → Type 0
-  -- the value that the words of a line mean, or their first error
+  -- the value that the words of a line mean, or the first error of these words
   pub read : List Word → Result A PacketFault
   -- the words of the line for a value
   pub written : A → List Word

@@ -33,8 +33,8 @@ bit_write to bytes = do
   place ← place_of (slice_index bytes 2 % 8)
   Ok (Loco to (CvBitWrite cv place (slice_index bytes 2 / 8 % 2 == 1)))
 
--- the write that the bytes `bytes` of an instruction mean, sent to the address `to`. If they begin
--- with 111011VV it is a write of a CV, otherwise a write of a bit.
+-- the write that the bytes `bytes` of an instruction mean, sent to the address `to`. If the bytes
+-- begin with 111011VV, the result is a write of a CV, otherwise a write of a bit.
 abbrev pub write_in : Address → List ℕ → Result Packet PacketFault
 write_in to bytes = if slice_index bytes 0 / 4 == 59 then byte_write to bytes else bit_write to bytes
 

@@ -14,13 +14,13 @@ abbrev pub is_possible : Saved → Bool
 is_possible (saved.Loco state) = is_state state
 is_possible (saved.Board state) = nat_le state.board.number 510
 
--- a first line of a decoder whose identity a decoder can have, or the line `end`
+-- the first line of a decoder with a possible identity, or the line `end`
 abbrev pub IsPossibleHead : Head → Type 0
 IsPossibleHead (heads.Decoder who) = is_decoder who ≡ true
 IsPossibleHead heads.End = Unit {0}
 
--- a line of a CV whose number is at least `least` and whose value is below 256, or a line after the
--- CVs that is possible
+-- a line of a CV whose number is at least `least` and whose value is below 256, or a possible line
+-- after the CVs
 abbrev pub IsSoundLine : ℕ → LocoLine → Type 0
 IsSoundLine least (behind.Cv cv value) = (least ≤ cv.number) × (value < 256)
 IsSoundLine least (behind.Head head) = IsPossibleHead head

@@ -19,8 +19,8 @@ use Rattle.dcc_saved.specs.FleetText.{fleet_text}
 abbrev pub SameRegisters : RegisterMap → RegisterMap → Type 0
 SameRegisters one other = (r : Register) → one r ≡ other r
 
--- a saved state is the state of a decoder with a given identity and given registers: it has this
--- identity, and a decoder that `restore` creates from it has these registers
+-- a saved state is the state of a decoder with a given identity and given registers. The state has
+-- this identity, and a decoder that `restore` creates from the state has these registers.
 abbrev pub Saves : Saved → Who × RegisterMap → Type 0
 Saves (saved.Loco state) (who.Loco address, m) =
     (state.address ≡ address) × SameRegisters (loco_registers (loco_state_content state)) m

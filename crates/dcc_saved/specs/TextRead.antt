@@ -13,14 +13,14 @@ abbrev pub at : InputState → List ℕ → Text
 at input bytes = record { line = input.place.line; bytes = bytes }
 
 -- the error of a reader that stops before the end of a text. If the bytes of the text end too
--- early, it is `last`, the error after these bytes. If `last` is `None`, it is P10.
+-- early, the error is `last`, the error after these bytes. If `last` is `None`, the error is P10.
 abbrev pub stop_fault : Option KeptFault → Stop → KeptFault
 stop_fault last (refused line fault) = Line line fault
 stop_fault last (cut line) = fault_at_end line last
 stop_fault last (too_many line) = TooMuch
 
--- the value that a reader returned, or the error if it stopped. `last` is the error after the bytes
--- of the text, or `None` if the input ends there.
+-- the value that a reader returned, or the error if the reader stopped. `last` is the error after
+-- the bytes of the text, or `None` if the input ends there.
 abbrev pub result_of : {A : Type 0} → Option KeptFault → Result (A × Text) Stop → Result A KeptFault
 result_of last (Ok read) = Ok read.0
 result_of last (Err stop) = Err (stop_fault last stop)
@@ -84,17 +84,16 @@ abbrev pub StopsAtDecoder : {A : Type 0} → Result (A × Text) Stop → ℕ →
 StopsAtDecoder (Err (too_many behind)) line = line ≡ behind
 StopsAtDecoder read line = ⊥
 
--- the input has read the lines up to an error of a reader, as `LinesAt` gives them. For U7 these
--- are the lines of the allowed bytes, or the lines up to the first line of the decoder that exceeds
--- the limit.
+-- the input has read the lines up to an error of the reader `read`. For U7 these are the lines of
+-- the allowed bytes, or the lines up to the first line of the decoder that exceeds the limit.
 abbrev pub TextLinesAt : {A : Type 0} → Reader A → InputState → KeptFault → InputState → Type 0
 TextLinesAt read old (Line line fault) new = UsesThroughLine old line new
 TextLinesAt read old TooMuch new =
     LinesAt old TooMuch new ⊎ IfSome old.text (λ text. StopsAtDecoder (read (at old text)) (new.lines + 1))
 TextLinesAt read old fault new = LinesAt old fault new
 
--- the result is the value that the reader `read` returns for the text of `old`, or its error, which
--- the input then stores
+-- the result is the value that the reader `read` returns for the text of `old`, or the error of
+-- this reader, which the input then stores
 abbrev pub ReadsValue : {A : Type 0} → Reader A → InputState → Result A KeptFault → InputState → Type 0
 ReadsValue read old (Ok x) new = Leads read old (done x) new
 ReadsValue read old (Err fault) new = RefusesText read old fault new × (new.fault ≡ Some fault)

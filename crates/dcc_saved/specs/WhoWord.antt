@@ -12,13 +12,13 @@ use Rattle.dcc_io.specs.declared.fault.ToolFault.TheVariants as faults
 use Rattle.dcc_io.specs.declared.fault.Usage.TheVariants as usages
 use Rattle.dcc_saved.specs.DecoderLines.{own_address}
 
--- the locomotive decoder with the active address in a result, or the error U1 if the result is an
--- error
+-- the locomotive decoder with the active address in a parsed word, or the error U1 if the word has
+-- an error
 abbrev pub loco_named : Result (Option Address) PacketFault → Result Who ToolFault
 loco_named (Ok active) = Ok (who.Loco active)
 loco_named (Err fault) = Err (faults.Usage usages.BadWho)
 
--- the accessory decoder with the number in a result, or the error U1 if the result is an error
+-- the accessory decoder with the number in a parsed word, or the error U1 if the word has an error
 abbrev pub board_named : Result Board PacketFault → Result Who ToolFault
 board_named (Ok board) = Ok (who.Board board)
 board_named (Err fault) = Err (faults.Usage usages.BadWho)

@@ -36,8 +36,8 @@ pub enum LocoLine {
     Head(Head),
 }
 
-/// The kinds of lines that list registers. A line that lists registers has the numbers of the
-/// registers that are on.
+/// The kinds of lines that list registers. Such a line has the numbers of the registers that are
+/// on.
 #[derive(Clone, Copy)]
 pub enum Numbered {
     Function,

@@ -63,7 +63,8 @@ fn states_of<R: Source>(input: &mut Input<R>, version: Version) -> Result<u128, 
     }
 }
 
-/// Reads the lines of the CVs and one more line. Returns the CVs and the value of the last line.
+/// Reads the lines of the CVs and the line after them. Returns the CVs and the value of the line
+/// after them.
 fn read_cvs<R: Source>(input: &mut Input<R>) -> Result<([u8; 1024], Head), KeptFault>
     requires { input.old.fault ≡ None }
     ensures reads { ReadsValue cvs_lines input.old result input.new }
@@ -82,8 +83,8 @@ fn read_cvs<R: Source>(input: &mut Input<R>) -> Result<([u8; 1024], Head), KeptF
     }
 }
 
-/// Reads the locomotive decoder with this address and one more line. Returns the decoder and the
-/// value of the last line.
+/// Reads the lines of the locomotive decoder with the address `address` and the line after them.
+/// Returns the decoder and the value of the line after it.
 fn read_loco<R: Source>(
     input: &mut Input<R>,
     version: Version,
@@ -111,8 +112,8 @@ fn read_loco<R: Source>(
     Ok((Saved::Loco(state), head))
 }
 
-/// Reads the accessory decoder with this address and one more line. Returns the decoder and the
-/// value of the last line.
+/// Reads the lines of the accessory decoder with the address `board` and the line after them.
+/// Returns the decoder and the value of the line after it.
 fn read_board<R: Source>(input: &mut Input<R>, board: Board) -> Result<(Saved, Head), KeptFault>
     requires fault { input.old.fault ≡ None }
     requires own { nat_le board.number 510 ≡ true }
@@ -137,8 +138,8 @@ fn read_board<R: Source>(input: &mut Input<R>, board: Board) -> Result<(Saved, H
     Ok((Saved::Board(state), head))
 }
 
-/// Reads the decoder of this kind and address and one more line. Returns the decoder and the value
-/// of the last line.
+/// Reads the lines of the decoder `who` and the line after them. Returns the decoder and the value
+/// of the line after it.
 pub(crate) fn read_decoder<R: Source>(
     input: &mut Input<R>,
     version: Version,

@@ -38,7 +38,7 @@ pub(crate) fn take_keyword(words: &mut Words, name: &[u8]) -> Result<(), PacketF
     }
 }
 
-/// Returns Ok if `n` is at least `least`. The numbers in a line must ascend.
+/// Returns Ok if `n` is at least `least`. The numbers in a line must be in ascending order.
 ///
 /// Errors: P10 if `n` is below `least`.
 fn in_order(least: u16, n: u16) -> Result<(), PacketFault>
@@ -82,7 +82,7 @@ pub fn own_address(word: &[u8]) -> Result<Option<Address>, PacketFault>
     }
 }
 
-/// Returns the speed step that a word gives, from 1 to `last`.
+/// Returns the speed step that a word means, from 1 to `last`.
 ///
 /// Errors: P11 if the word is no number or a number above 255, P13 if the step is not 1 to `last`.
 fn parse_step(last: u8, word: &[u8]) -> Result<u8, PacketFault>
@@ -97,7 +97,7 @@ fn parse_step(last: u8, word: &[u8]) -> Result<u8, PacketFault>
     }
 }
 
-/// Removes the next word and returns the speed step that it gives, from 1 to `last`.
+/// Removes the next word and returns the speed step that the word means, from 1 to `last`.
 fn take_step(words: &mut Words, last: u8) -> Result<u8, PacketFault>
     ensures is { ParsesAs (word_and_rest (parse_step last) words.old) result words.new }
     ensures step { IfOk result (λ step. (1 ≤ step) × (step ≤ last)) }
@@ -204,9 +204,10 @@ fn is_write_for(active: &Option<Address>, packet: &Packet) -> bool
     is_own_write(packet) && hears(Who::Loco(*active), packet)
 }
 
-/// Returns the CV write with this frame.
+/// Returns the CV write with the frame `frame`.
 ///
-/// Errors: P13 if this packet cannot be pending in a decoder with the address `active`.
+/// Errors: P13 if no CV write with this frame can be pending in a decoder with the address
+/// `active`.
 #[tactic(auto, using(crate::proofs::PendingBack::pending_write_is))]
 fn pending_write(active: &Option<Address>, frame: &Frame) -> Result<Packet, PacketFault>
     ensures is { result ≡ pending_write active.now frame.now }
@@ -220,8 +221,8 @@ fn pending_write(active: &Option<Address>, frame: &Frame) -> Result<Packet, Pack
     }
 }
 
-/// Returns the pending write that a word gives: `none`, or the frame of a CV write to the address
-/// of the decoder.
+/// Returns the pending write that a word means. The word is `none`, or the frame of a CV write to
+/// the address of the decoder.
 ///
 /// Errors: P12 if the word is no frame, P13 if the packet cannot be pending in the decoder.
 pub(crate) fn pending_word(
@@ -238,8 +239,8 @@ pub(crate) fn pending_word(
     Ok(Some(pending_write(active, &frame)?))
 }
 
-/// Returns the value of a line with the words `CV VALUE` after its keyword. The CV must be at least
-/// `least`.
+/// Returns the value of a line with the words `CV VALUE` after its keyword. The number of the CV
+/// must be at least `least`.
 pub(crate) fn cv_words(words: &mut Words, least: u16) -> Result<LocoLine, PacketFault>
     ensures is { result ≡ cv_words least words.old }
     ensures sound { IfOk result (IsSoundLine least) }

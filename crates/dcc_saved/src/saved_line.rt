@@ -1,5 +1,5 @@
-//! The lines of a decoder text. Each kind of line has a type with a function that reads the line
-//! and a function that writes it.
+//! The lines of a decoder text. Each kind of line has a type with two functions, which read and
+//! write the line.
 
 ghost use Rattle.std.specs.Prelude.{◌≡◌, ◌+◌, ◌<◌, ◌≤◌, ◌++◌, ◌∷◌, [], ℕ, Result, Err, IfOk, length, if◌then◌else◌};
 ghost use Rattle.std.specs.Fmt.{decimal};

@@ -9,10 +9,10 @@ use dcc_io::{ToolFault, Usage};
 use dcc_packet::line_word::board_number;
 use dcc_regs::Who;
 
-/// Returns the decoder that a word names. The name of a locomotive decoder is `s` and a short
-/// address, 1 to 127, or `l` and a long address, 0 to 10239. The name of a locomotive decoder
-/// without an active address is `none`. The name of an accessory decoder is `b` and its address, 0
-/// to 511. A number has 1 to 5 decimal digits.
+/// Returns the decoder that a word names. The name of a locomotive decoder is `s` followed by a
+/// short address, 1 to 127, or `l` followed by a long address, 0 to 10239. The name of a locomotive
+/// decoder without an active address is `none`. The name of an accessory decoder is `b` followed by
+/// its address, 0 to 511. A number has 1 to 5 decimal digits.
 ///
 /// Errors: U1 for any other word.
 pub fn read_who(word: &str) -> Result<Who, ToolFault>

@@ -10,8 +10,8 @@ abbrev pub is_past_limits : Option (ℕ × ℕ × ℕ) → Bool
 is_past_limits None = false
 is_past_limits (Some sizes) = not (is_within_limits sizes.0 sizes.1 sizes.2)
 
--- true if the result is not an error of the creation of the station. After such an error nothing is
--- read.
+-- true if the result is not an error that occurs when `encode` creates its station. After such an
+-- error nothing is read.
 abbrev pub has_begun : Result (Unit {0}) ToolFault → Bool
 has_begun (Ok done) = true
 has_begun (Err (Usage Words)) = true

@@ -37,8 +37,8 @@ answered_line frame answer = encode_lower frame ++ answer_text answer
 abbrev pub with_answer : CvAnswers → Bool → CvAnswers
 with_answer so_far answer = record { cv = so_far.cv; answers = so_far.answers ++ answer ∷ [] }
 
--- a line for each answer of a list, which follow the reading `so_far`. The line has the question of
--- the answer, which follows from the answers before it.
+-- a line for each answer of a list, after the answers of the reading `so_far`. The line has the
+-- answer and its question, which depends on the earlier answers.
 abbrev pub answered_lines : CvAnswers → List Bool → List ℕ
 answered_lines so_far [] = []
 answered_lines so_far (answer ∷ answers) =
@@ -58,13 +58,13 @@ abbrev pub reading_text : Option (List ℕ) → CvNumber → List ℕ
 reading_text track cv = answered_lines (no_answers cv) (answers_on track cv) ++ value_line (value_on track cv)
 
 -- the state of a decoder after the ninth question about `cv`. `before` is its state before the
--- first question. It has acknowledged the ninth question, whose packet is still pending.
+-- first question. The decoder has acknowledged the ninth question, whose packet is still pending.
 abbrev pub after_reading : ServiceState → CvNumber → ServiceState
 after_reading before cv =
     record { in_service = true; pending = Some (Verify cv (cv_in before.cvs cv.number)); cvs = before.cvs }
 
--- If the result of `readcv` is Ok, it is the value of `cv` on `track`, and the whole text of the
--- reading was written. After a failed write, a prefix of the text was written.
+-- If `readcv` succeeds, its result is the value of `cv` on `track`, and it has written the whole
+-- text of the reading. After a failed write, a prefix of the text was written.
 abbrev pub ReadsCv : Option (List ℕ) → CvNumber → WriterState → Result (Option ℕ) ToolFault → WriterState → Type 0
 ReadsCv track cv before result after =
     CallPost (λ value. (value ≡ value_on track cv) × Appends before.contents after.contents (reading_text track cv))

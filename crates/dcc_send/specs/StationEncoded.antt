@@ -18,8 +18,8 @@ use Rattle.dcc_send.specs.Encoded.{frame_line}
 use Rattle.dcc_io.specs.StationLines.{Asked, Command, Next, station_lines}
 
 -- the error of the command `packet` for a station in state `s`, or `None` if the station accepts
--- the command. First comes the error C3: stations do not send such packets. Then comes the error
--- C4: the queue is full.
+-- the command. The error is C3 if stations do not send `packet`. Otherwise it is C4 if the queue is
+-- full.
 abbrev pub refusal : sending.Sending → Packet → Option Refused
 refusal s packet =
     if not (is_sendable packet) then Some NotSendable
@@ -31,13 +31,13 @@ refusal_line NotSendable = codes "# refused C3\n"
 refusal_line QueueFull = codes "# refused C4\n"
 
 -- the bytes that are written for a command: the line of its error, or no bytes if the station
--- accepts it
+-- accepts the command
 abbrev pub command_line : Option Refused → List ℕ
 command_line None = []
 command_line (Some refused) = refusal_line refused
 
--- the state of a station after the command `packet`. The station adds it to its queue if it has no
--- error.
+-- the state of a station after the command `packet`. The station adds the command to its queue if
+-- the command has no error.
 abbrev pub after_command : sending.Sending → Packet → Option Refused → sending.Sending
 after_command s packet None = sending.with_command s packet
 after_command s packet (Some refused) = s
@@ -66,7 +66,7 @@ pub record Wrote (how : Encode) (s : sending.Sending) (items : List Asked) (new 
   pub answers : AnswersAll how s items bytes new
   pub written : Appends before.contents after.contents bytes
 
--- a prefix of the answers of a station in state `s` was written. These are the answers to the first
+-- a prefix of the answers of a station in state `s` was written. The answers belong to the first
 -- requests of `items`.
 pub record WroteFront (how : Encode) (s : sending.Sending) (before after : WriterState) (items : List Asked) : Type 0
   where

@@ -20,10 +20,10 @@ use std::alloc::Global;
 /// microseconds, with one space between them, or the bytes of the packet in hex.
 ///
 /// If `how` has a station, the packets are commands to this station. The line `send N`, with N from
-/// 1 to 1000, requests N packets, and a line is written for each packet that the station sends. If
-/// the station rejects a command, the line `# refused C3` or `# refused C4` is written, and the
-/// next line is read. At the end of the input the station sends no further packet. The station is
-/// created before anything is read.
+/// 1 to 1000, requests N packets, and `encode` writes a line for each packet that the station
+/// sends. If the station refuses a command, `encode` writes the line `# refused C3` or `# refused
+/// C4`, and reads the next line. At the end of the input the station sends no further packet. The
+/// station is created before anything is read.
 ///
 /// Blank lines and lines that begin with `#` are skipped.
 ///

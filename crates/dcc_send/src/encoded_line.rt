@@ -14,12 +14,12 @@ use dcc_io::{Failed, HeldLines, Sink, append_decimal};
 use dcc_wire::{Frame, Timing};
 
 /// A line with capacity for the 150 half-bits of six bytes in service mode, each with up to five
-/// digits and a space. The line also has capacity for the unused bytes that are written after the
-/// last text.
+/// digits and a space. The line also has capacity for the unused bytes that the function `put`
+/// writes after the last text.
 type EncodedLine = [u8; 1024];
 
-/// The number of bytes that are written for one bit. The text of the bit is a prefix of these
-/// bytes.
+/// The number of bytes that the function `put` writes for one bit. The text of the bit is a prefix
+/// of these bytes.
 const WRITTEN: usize = 16;
 
 /// The encoding of frames, with the texts of bits, which are computed once for all lines.
@@ -96,7 +96,7 @@ fn hold_hex<W: Sink>(held: &mut HeldLines, bytes: &[u8], writer: &mut W) -> Resu
 
 /// Appends a line with the half-bits of a frame to the buffered lines.
 ///
-/// The function is not inlined, so that the stack of its caller has no line.
+/// The function is not inlined, so that the line takes no space on the stack of the caller.
 fn hold_halves<W: Sink>(
     held: &mut HeldLines,
     frame: &[u8],
@@ -119,8 +119,8 @@ fn hold_halves<W: Sink>(
     held.hold(&line[1..len + 1], writer)
 }
 
-/// Returns the timing of the encoding: that of service mode if `how.service` is true, otherwise
-/// that of the main track.
+/// Returns the timing of the encoding `how`: the timing of service mode if `how.service` is true,
+/// otherwise the timing of the main track.
 fn timing_of(how: Encode) -> Timing
     ensures timing { result ≡ timing_of how }
     ensures short { result.preamble ≤ 20 }
@@ -155,8 +155,8 @@ impl BitTexts {
     }
 }
 
-/// The text of two half-bits in decimal digits, with a space before each. The text is the first
-/// `len` bytes of `bytes`.
+/// The text of two half-bits in decimal digits, with a space before each half-bit. The text is the
+/// first `len` bytes of `bytes`.
 #[derive(Clone, Copy, Drop)]
 struct BitText {
     bytes: [u8; WRITTEN],
@@ -197,7 +197,7 @@ fn put_ones(line: &mut EncodedLine, one: &BitText, timing: Timing) -> usize
     at
 }
 
-/// Writes the half-bits of the frame with these bytes, with a space before each, after the preamble
+/// Writes the half-bits of the frame `frame`, with a space before each half-bit, after the preamble
 /// in the line. Returns the number of bytes of the preamble and the frame.
 fn put_halves(line: &mut EncodedLine, frame: &[u8], texts: &BitTexts, preamble_len: usize) -> usize
     requires few { length frame.now ≤ 6 }
@@ -216,7 +216,7 @@ fn put_halves(line: &mut EncodedLine, frame: &[u8], texts: &BitTexts, preamble_l
 }
 
 /// Writes the half-bits of the eight bits of `byte` at the place `at`, and returns the place after
-/// them.
+/// the written text.
 #[inline(always)]
 fn put_byte(line: &mut EncodedLine, at: usize, texts: &BitTexts, byte: u8) -> usize
     requires { at ≤ 900 }
@@ -231,7 +231,8 @@ fn put_byte(line: &mut EncodedLine, at: usize, texts: &BitTexts, byte: u8) -> us
     end
 }
 
-/// Writes the half-bits of a bit at the place `at`, and returns the place after them.
+/// Writes the half-bits of the bit `bit` at the place `at`, and returns the place after the written
+/// text.
 #[inline(always)]
 fn put_bit(line: &mut EncodedLine, at: usize, texts: &BitTexts, bit: bool) -> usize
     requires { at ≤ 1000 }

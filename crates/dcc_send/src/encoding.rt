@@ -6,8 +6,8 @@ pub struct Encode {
     /// True if packets are written as bytes in hex, false if they are written as half-bits.
     pub hex: bool,
 
-    /// True if the timing is that of service mode (NMRA S-9.2.3), false if it is that of the main
-    /// track.
+    /// True if the packets have the timing of service mode (NMRA S-9.2.3), false if they have the
+    /// timing of the main track.
     pub service: bool,
 
     /// The sizes of the station that sends the packets, or `None` if each packet is written once.

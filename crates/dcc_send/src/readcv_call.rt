@@ -18,9 +18,10 @@ use dcc_service::{CvReader, Reading, ServiceDecoder, ServicePacket, ask};
 /// mode). Writes a line for each of the nine questions, such as `7800e890 no` or `7800e991 yes`.
 /// The last line is `value 10` or `no answer`.
 ///
-/// The answer to a question is yes if the decoder acknowledges one of its eight frames. The
-/// function returns the value if the decoder acknowledges the last question, and otherwise `None`,
-/// which is no error. No CV changes. Before the call the decoder can be in service mode or not.
+/// The answer to a question is yes if the decoder acknowledges one of the eight frames of the
+/// question. The function returns the value if the decoder acknowledges the last question.
+/// Otherwise the function returns `None`, which is no error. No CV changes. Before the call the
+/// decoder can be in service mode or not.
 ///
 /// Errors: U5 if a write fails or writes no byte. After U5 a prefix of the text was written.
 pub fn readcv<W: Sink>(
@@ -76,7 +77,8 @@ impl ProgrammingTrack for EmptyTrack {
     }
 }
 
-/// Sends the questions about a CV to the track, and writes their lines and the result.
+/// Sends the questions about a CV to the track, and writes the lines of the questions and of the
+/// result.
 fn read<T: ProgrammingTrack, W: Sink>(
     track: &mut T,
     cv: CvNumber,

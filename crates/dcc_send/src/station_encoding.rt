@@ -15,7 +15,7 @@ use dcc_io::{Failed, HeldLines, Input, Sink, Source, StationLine, ToolFault};
 use dcc_packet::Packet;
 use dcc_station::{Refused, Station};
 
-/// Gives the commands of the lines to a station, and writes the packets that the lines request. At
+/// Passes the commands of the lines to a station, and writes the packets that the lines request. At
 /// the end of the input the station sends no further packet.
 pub(crate) fn encode_by_station<R: Source, W: Sink>(
     station: &mut Station,
@@ -62,7 +62,7 @@ fn answer<W: Sink>(
     }
 }
 
-/// Gives a command to the station. If the station rejects the command, the function appends the
+/// Passes a command to the station. If the station refuses the command, the function appends the
 /// line with the error to the buffered lines.
 fn take_command<W: Sink>(
     station: &mut Station,
@@ -115,7 +115,7 @@ fn send_next<W: Sink>(
     written.hold(held, &packet.frame(), writer)
 }
 
-/// Returns the line for a command that the station rejected: `# refused C3` or `# refused C4`.
+/// Returns the line for a command that the station refused: `# refused C3` or `# refused C4`.
 fn refusal_line(refused: Refused) -> &'static [u8]
     ensures line { result.now ≡ refusal_line refused }
     ensures short { length result.now ≤ 4096 }

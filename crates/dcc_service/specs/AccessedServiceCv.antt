@@ -21,8 +21,8 @@ pub record Executes (before : ServiceState) (frame : List ℕ) (packet : Service
   pub pending : before.pending ≡ Some packet
   pub spelled : frame ≡ service_spelling packet
 
--- A decoder in state `before` that gets `frame` accesses the CV `cv`. It accesses the CV of the
--- packet that it executes. If it executes no packet, `cv` is `None`.
+-- A decoder in state `before` that gets `frame` accesses the CV `cv`. If the decoder executes a
+-- packet, `cv` is the CV of this packet. If it executes no packet, `cv` is `None`.
 pub record Accesses (before : ServiceState) (frame : List ℕ) (cv : Option CvNumber) : Type 0 where
   pub executed : (packet : ServicePacket) → Executes before frame packet → cv ≡ Some (service_cv packet)
   pub none : ((packet : ServicePacket) → ¬ (Executes before frame packet)) → cv ≡ None

@@ -28,16 +28,16 @@ acted_on (Verify cv value) cvs = cvs
 acted_on (BitWrite cv bits one) cvs = written cvs cv (with_bit (cv_in cvs cv.number) bits.place one)
 acted_on (BitVerify cv bits one) cvs = cvs
 
--- true if a decoder with the CVs `cvs` acknowledges a service packet that it executes: a write to a
--- CV except CV7 and CV8, or a comparison with equal values
+-- true if a decoder with the CVs `cvs` acknowledges a service packet that it executes. It
+-- acknowledges a write to a CV except CV7 and CV8, and a comparison of equal values.
 abbrev pub is_acknowledged : ServicePacket → List ℕ → Bool
 is_acknowledged (Write cv value) cvs = is_writable cv
 is_acknowledged (Verify cv value) cvs = cv_in cvs cv.number == value
 is_acknowledged (BitWrite cv bits one) cvs = is_writable cv
 is_acknowledged (BitVerify cv bits one) cvs = bit_at (cv_in cvs cv.number) bits.place == bit one
 
--- A decoder in state `before` that gets `frame` goes to state `after`. It acknowledges `frame` if
--- and only if `answer` is true.
+-- A decoder in state `before` that gets `frame` goes to state `after`. The decoder acknowledges
+-- `frame` if and only if `answer` is true.
 pub record Step (before : ServiceState) (frame : List ℕ) (after : ServiceState) (answer : Bool) : Type 0 where
   -- the reset leads to service mode without a pending packet
   pub reset : frame ≡ reset_bytes

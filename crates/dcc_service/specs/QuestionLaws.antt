@@ -16,8 +16,8 @@ pub record IsAsked (question : ServicePacket) (before after : ServiceState) (ans
   pub cvs : IsCvs before.cvs
   pub steps : Steps before (question_bytes question) after answers
 
--- a decoder does not acknowledge the first four frames of a question. It acknowledges the last four
--- frames if and only if it acknowledges the service packet of the question.
+-- a decoder does not acknowledge the first four frames of a question. The decoder acknowledges the
+-- last four frames if and only if it acknowledges the service packet of the question.
 abbrev pub QuestionsAreAnswered : Type 0
 QuestionsAreAnswered =
     (question : ServicePacket) (before after : ServiceState) (answers : List Bool)
@@ -56,16 +56,16 @@ abbrev pub OtherBitsStay : BitPlace → ℕ → ℕ → Type 0
 OtherBitsStay bits before after =
     (other : BitPlace) → other.place ≢ bits.place → bit_at after other.place ≡ bit_at before other.place
 
--- if a question writes `value` to a CV except CV7 and CV8, a decoder acknowledges it and the CV
--- then has this value. All other CVs are unchanged.
+-- if a question writes `value` to a CV except CV7 and CV8, a decoder acknowledges the question and
+-- the CV then has this value. All other CVs are unchanged.
 abbrev pub WritesAreDone : Type 0
 WritesAreDone =
     (cv : CvNumber) (value : ℕ) (before after : ServiceState) (answers : List Bool) → is_read_only cv.number ≡ false
     → IsAsked (Write cv value) before after answers
     → (answers ≡ four_no_then true) × (cv_in after.cvs cv.number ≡ value) × OtherCvsStay cv before.cvs after.cvs
 
--- if a question writes a bit of a CV except CV7 and CV8, a decoder acknowledges it and the bit then
--- has the value `one`. All other bits of this CV and all other CVs are unchanged.
+-- if a question writes a bit of a CV except CV7 and CV8, a decoder acknowledges the question and
+-- the bit then has the value `one`. All other bits of this CV and all other CVs are unchanged.
 abbrev pub BitWritesAreDone : Type 0
 BitWritesAreDone =
     (cv : CvNumber) (bits : BitPlace) (one : Bool) (before after : ServiceState) (answers : List Bool)

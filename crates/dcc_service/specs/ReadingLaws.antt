@@ -64,8 +64,8 @@ pub record IsPut (question : ServicePacket) (cvs after : List ℕ) (answer : Boo
   pub is : answer ≡ is_acknowledged question cvs
   pub acted : after ≡ acted_on question cvs
 
--- a reading of `cv` is under way: the decoder still has the CVs `cvs` that it had at the start, and
--- all answers so far are true answers
+-- a reading of `cv` is under way. The decoder still has the CVs `cvs` of the start, and all answers
+-- so far are true answers.
 pub record IsReadingUnderWay (cv : CvNumber) (cvs now : List ℕ) (so_far : CvAnswers) : Type 0 where
   pub same_cv : so_far.cv ≡ cv
   pub kept : now ≡ cvs

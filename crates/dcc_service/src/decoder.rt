@@ -30,8 +30,8 @@ impl ServiceDecoder {
     ghost use Rattle.dcc_packet.specs.Cvs.{IsCvs};
     ghost use Rattle.dcc_service.specs.Machine.{Step, acted_on, is_acknowledged};
 
-    /// Creates a decoder that is not in service mode, with these CVs. The first byte of `cvs` is
-    /// CV1.
+    /// Creates a decoder that is not in service mode, with the CVs `cvs`. The first byte of `cvs`
+    /// is CV1.
     pub fn new(cvs: &[u8; 1024]) -> ServiceDecoder
         ensures { result ≡ record { in_service = false; pending = None; cvs = cvs.now } }
     {
@@ -53,11 +53,12 @@ impl ServiceDecoder {
     /// Applies a frame. Returns true if the decoder acknowledges the frame.
     ///
     /// The reset `00 00 00` enters service mode. In service mode the decoder executes a service
-    /// packet when the second copy comes, and again for each further copy that follows directly. A
-    /// packet that is neither the reset nor a service packet leaves service mode.
+    /// packet when the second copy comes, and again for each further copy that follows without
+    /// another packet in between. A packet that is neither the reset nor a service packet leaves
+    /// service mode.
     ///
-    /// The decoder acknowledges a write that it executes, and a comparison that holds. The decoder
-    /// never writes CV7 or CV8.
+    /// The decoder acknowledges a write that it executes, and a comparison of equal values. The
+    /// decoder never writes CV7 or CV8.
     pub fn apply(&mut self, frame: &Frame) -> bool
         ensures { Step self.old frame.now self.new result }
     {

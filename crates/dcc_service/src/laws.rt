@@ -15,8 +15,7 @@ use crate::ServicePacket;
 use crate::progress::is_reset;
 use dcc_wire::Frame;
 
-/// Theorem: the service packet that `read` returns for the frame of a service packet is this
-/// packet.
+/// Theorem: if `read` gets the frame of a service packet, it returns this service packet.
 pub fn read_after_frame(packet: &ServicePacket) -> Option<ServicePacket>
     ensures { result ≡ Some packet.now }
 {
@@ -42,13 +41,13 @@ pub fn one_step(frame: &Frame)
 
 /// Theorem: a decoder in any state does not acknowledge the first four of the eight frames of a
 /// question. The decoder acknowledges each of the last four frames if and only if it acknowledges
-/// the packet.
+/// the service packet of the question.
 pub fn questions_are_answered()
     ensures { QuestionsAreAnswered }
 {}
 
-/// Theorem: a decoder answers yes to a question that compares a CV or a bit if and only if the CV
-/// or the bit has this value. No CV changes.
+/// Theorem: let a question compare a CV or a bit with a value. A decoder answers yes if and only if
+/// the CV or the bit has this value. No CV changes.
 pub fn verifies_tell_the_truth()
     ensures byte { VerifiesTell }
     ensures bit { BitVerifiesTell }
@@ -67,9 +66,9 @@ pub fn cv7_and_cv8_are_kept()
     ensures { KeptCvsStay }
 {}
 
-/// Theorem: let a decoder hear the questions of a reading. The answer of the decoder to question k,
-/// from 0 to 7, is yes if and only if bit k of the CV is one. The answer of the decoder to the last
-/// question is yes. No CV changes.
+/// Theorem: let a decoder get the questions of a reading. Its answer to question k, from 0 to 7, is
+/// yes if and only if bit k of the CV is one. Its answer to the last question is yes. No CV
+/// changes.
 pub fn decoders_tell_the_truth()
     ensures answers { DecodersTellTheTruth }
     ensures cvs { ReadingLeavesTheCvs }
@@ -92,9 +91,9 @@ pub fn questions_have_their_frames()
     ensures { QuestionsHaveTheirFrames }
 {}
 
-/// Theorem: if a caller puts each question of a [`CvReader`](crate::CvReader) to a decoder, the
-/// reading ends with the value of the CV, and no CV changes. A caller with its own loop uses this
-/// theorem. The clauses are about the start, each question with its answer, and the end.
+/// Theorem: let a caller send each question of a [`CvReader`](crate::CvReader) to a decoder. The
+/// reading then ends with the value of the CV, and no CV changes. A caller with its own loop uses
+/// this theorem. The clauses are about the start, each question with its answer, and the end.
 pub fn readings_under_way()
     ensures begins { ReadingBegins }
     ensures goes_on { ReadingGoesOn }

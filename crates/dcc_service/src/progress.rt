@@ -35,8 +35,8 @@ impl ServiceProgress {
         }
     }
 
-    /// Applies a frame to a decoder with these CVs, as `ServiceDecoder::apply` does. Returns true
-    /// if the decoder acknowledges the frame.
+    /// Applies a frame to a decoder with the CVs `cvs`, as `ServiceDecoder::apply` does. Returns
+    /// true if the decoder acknowledges the frame.
     pub fn apply(&mut self, cvs: &mut [u8; 1024], frame: &Frame) -> bool
         ensures { Step (state_with_cvs self.old cvs.old) frame.now (state_with_cvs self.new cvs.new) result }
     {
@@ -107,7 +107,8 @@ impl ServiceProgress {
     }
 }
 
-/// Executes the packet. Returns true if the decoder acknowledges the packet.
+/// Executes the packet `packet` on the CVs `cvs`. Returns true if the decoder acknowledges the
+/// packet.
 fn act(cvs: &mut [u8; 1024], packet: &ServicePacket) -> bool
     ensures after { cvs.new ≡ acted_on packet.now cvs.old }
     ensures answer { result ≡ is_acknowledged packet.now cvs.old }

@@ -58,9 +58,9 @@ impl CvReader {
         }
     }
 
-    /// Creates the reading of the CV `cv` in which `known` questions were answered. The answers are
-    /// the bits of `value`, the lowest bit first. Returns `None` if `known` is above 8, or if
-    /// `value` has more than `known` bits.
+    /// Creates a reading of the CV `cv` after `known` answers. The answers are the bits of `value`,
+    /// the lowest bit first. Returns `None` if `known` is above 8, or if `value` has more than
+    /// `known` bits.
     pub fn restore(cv: CvNumber, known: u8, value: u8) -> Option<CvReader>
         ensures valid { IsSome result ↔ ((known ≤ 8) × (value < 2 ^ known)) }
         ensures reading { IfSome result (λ r. r ≡ record { cv = cv; answers = bits_from_lowest known value }) }

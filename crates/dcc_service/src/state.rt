@@ -6,8 +6,8 @@ impl ServiceDecoder {
     ghost use Rattle.std.specs.Prelude.{◌≡◌};
 
     /// Creates a decoder in this state. The parameter `in_service` is true if the decoder is in
-    /// service mode, and `pending` is its pending packet, if there is one. The first byte of `cvs`
-    /// is CV1.
+    /// service mode, and `pending` is its pending packet, or `None`. The first byte of `cvs` is
+    /// CV1.
     pub fn restore(
         in_service: bool,
         pending: Option<ServicePacket>,

@@ -1,5 +1,6 @@
-//! A decoder on the programming track whose CVs are stored by the caller, for example in EEPROM. The
-//! caller hands in the value of the one CV that a frame accesses, and gets back the new value.
+//! A decoder on the programming track whose CVs are stored by the caller, for example in EEPROM.
+//! The caller passes the value of the one CV that a frame accesses, and gets the new value of this
+//! CV.
 
 ghost use Rattle.std.specs.Prelude.{◌≡◌, ℕ, ◌-◌, List, slice_set};
 ghost use Rattle.dcc_packet.specs.Cvs.{cv_in};
@@ -33,8 +34,8 @@ impl ServiceProgress {
 
     /// Applies a frame to a decoder in this state, whose CVs the caller stores. If the frame
     /// accesses a CV, `value` is the value of this CV, and the function writes the new value of the
-    /// CV to `value`. Otherwise `value` does not change. Returns true if the decoder acknowledges
-    /// the frame.
+    /// CV to `value`. If the frame accesses no CV, `value` does not change. Returns true if the
+    /// decoder acknowledges the frame.
     pub fn apply_with_value(&mut self, value: &mut u8, frame: &Frame) -> bool
         ensures steps { (cvs : List ℕ) (cv : Option CvNumber) → Accesses (state_with_cvs self.old cvs) frame.now cv
             → HasValue cvs cv value.old → Step (state_with_cvs self.old cvs) frame.now
@@ -61,8 +62,8 @@ fn service_cv(packet: &ServicePacket) -> CvNumber
     }
 }
 
-/// Executes the packet on `value`, which is the value of the CV of the packet. Returns true if the
-/// decoder acknowledges the packet.
+/// Executes the packet `packet`. The parameter `value` is the value of the CV that the packet
+/// names, and gets its new value. Returns true if the decoder acknowledges the packet.
 fn act_on(value: &mut u8, packet: &ServicePacket) -> bool
     ensures after { (cvs : List ℕ) → cv_in cvs (service_cv packet.now).number ≡ value.old
         → slice_set cvs ((service_cv packet.now).number - 1) value.new ≡ acted_on packet.now cvs }

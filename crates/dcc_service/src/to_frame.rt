@@ -9,8 +9,9 @@ use dcc_packet::CvNumber;
 use dcc_wire::Frame;
 
 impl ServicePacket {
-    /// Returns the frame that encodes the packet: the bytes of the row that has this packet, and
-    /// the error byte (NMRA S-9.2.3). `ServicePacket::read` returns the packet for this frame.
+    /// Returns the frame that encodes the packet. The frame has the bytes of the row of the packet
+    /// in the table of service packets, and the error byte (NMRA S-9.2.3). `ServicePacket::read`
+    /// returns the packet for this frame.
     pub fn frame(&self) -> Frame
         ensures { result ≡ service_spelling self.now }
     {

@@ -8,13 +8,13 @@ use Rattle.dcc_io.specs.WriterState.{WriterState}
 use Rattle.dcc_capture.specs.Shown.{Shows}
 
 -- the program has listed the capture, with packet lines or hexadecimal digits. If its arguments
--- were wrong, `result` is the error, and nothing was read or written.
+-- have an error, `result` is this error, and nothing was read or written.
 abbrev pub DoesAsAsked : Result Bool ToolFault → InputState → WriterState → Result (Unit {0}) ToolFault → InputState
     → WriterState → Type 0
 DoesAsAsked (Ok words) old before result new after = Shows words old before result new after
 DoesAsAsked (Err fault) old before result new after = (result ≡ Err fault) × (new ≡ old) × (after ≡ before)
 
--- if the arguments have an error, it is U1, a wrong command line
+-- if the arguments have an error, the error is U1, a wrong command line
 abbrev pub RequestsListing : Result Bool ToolFault → Type 0
 RequestsListing (Ok words) = Unit {0}
 RequestsListing (Err fault) = fault ≡ Usage Words

@@ -22,7 +22,7 @@ pub fn run<T: Env + Eprint, R: Source, W: Sink>(rt: &T, input: &mut Input<R>, wr
 }
 
 /// Lists the capture, with packets as packet lines if `asked` is true. If `asked` is an error of
-/// the arguments, returns this error.
+/// the arguments, the function returns this error.
 fn list<R: Source, W: Sink>(
     asked: Result<bool, ToolFault>,
     input: &mut Input<R>,
@@ -55,8 +55,8 @@ fn in_words<T: Env>(rt: &T) -> Result<bool, ToolFault>
     }
 }
 
-/// Returns the exit status: 0 if the whole listing was written, 2 for wrong arguments, 3 for any
-/// other error.
+/// Returns the exit status: 0 if the whole listing was written, 2 for wrong arguments, and 3 for
+/// any other error.
 fn exit_status(outcome: &Result<(), ToolFault>) -> u8
     ensures { result ≡ listing_status outcome.now }
 {

@@ -1,5 +1,5 @@
--- The refreshing of a station is transparent: it leads decoders to the same registers as the
--- commands without it.
+-- The refreshing of a station is transparent: decoders have the same registers with and without the
+-- refreshed packets.
 use Rattle.std.specs.Prelude.{ℕ, ◌≡◌, ◌≢◌, ◌<◌, true, List, [], ◌∷◌, ◌++◌, length, if◌then◌else◌}
 use Rattle.dcc_packet.specs.declared.packet.Packet.{Packet}
 use Rattle.dcc_regs.specs.declared.register.Who.{Who}
@@ -19,20 +19,21 @@ pub data StationRepresents : Sending → List Packet → List Packet → Type 0 
   hands_out : (s new : Sending) (commands packets : List Packet) (p : Packet) → StationRepresents s commands packets
       → Next s p new → StationRepresents new commands (packets ++ p ∷ [])
 
--- the packets that a list of commands asks for: each command once, but each own write twice
+-- the packets that the operator intends by a list of commands: each command once, but each own
+-- write twice
 abbrev pub intended : List Packet → List Packet
 intended [] = []
 intended (p ∷ later) = if is_own_write p then p ∷ p ∷ intended later else p ∷ intended later
 
--- from all registers at the start, the lists `left` and `right` lead decoder `who` to the same
--- value in each register except Pending
+-- for any registers at the start, the lists `left` and `right` lead decoder `who` to the same value
+-- in each register except Pending
 abbrev pub LeaveTheSameButPending : Who → List Packet → List Packet → Type 0
 LeaveTheSameButPending who left right =
     (start : RegisterMap) (register : Register) → register ≢ registers.Pending
     → result who start left register ≡ result who start right register
 
--- if no copy of a waiting command was sent, the returned packets and the commands that have left
--- the queue lead each decoder to the same registers, except Pending
+-- let no copy of a waiting command be sent so far. Then the returned packets lead each decoder to
+-- the same registers as the commands that have left the queue, except Pending.
 abbrev pub RefreshIsTransparent : Type 0
 RefreshIsTransparent =
     (s : Sending) (done packets : List Packet) → StationRepresents s (done ++ s.waiting) packets → s.sent ≡ 0 →
@@ -45,8 +46,8 @@ TransparentWhereNothingWaits =
     (s : Sending) (commands packets : List Packet) → StationRepresents s commands packets → s.waiting ≡ [] →
     (who : Who) → LeaveTheSameButPending who packets (intended commands)
 
--- if no command waits, the station returns its entries in order, each once. After as many packets
--- as it has entries, its state is unchanged.
+-- if no command waits, the station returns its entries in order, each once. After it has returned
+-- each entry once, its state is unchanged.
 abbrev pub EntriesAreHandedOutInTurn : Type 0
 EntriesAreHandedOutInTurn =
     (s new : Sending) (packets : List Packet) → s.waiting ≡ [] → length packets ≡ length s.entries
@@ -58,8 +59,9 @@ WaitingIsSuffix =
     (s : Sending) (commands packets : List Packet) → StationRepresents s commands packets
     → (done : List Packet) × (commands ≡ done ++ s.waiting)
 
--- a station in state `s` has accepted `commands`, and a decoder with the registers `start` before
--- has heard all packets that this station has returned
+-- a station in state `s` has accepted `commands`, and a decoder has heard all packets that this
+-- station has returned. The registers of the decoder were `start` before these packets and are
+-- `now` after them.
 pub record HasHeardStation (s : Sending) (commands : List Packet) (who : Who) (start : RegisterMap) (who' : Who)
     (now : RegisterMap) : Type 0 where
   pub packets : List Packet
@@ -72,16 +74,16 @@ NothingHandedOut = (s : Sending) (commands : List Packet) (who : Who) (start : R
     → StationRepresents s commands []
     → HasHeardStation s commands who start who start
 
--- if a decoder has heard all packets of a station and hears the next packet that it returns, it has
--- again heard all packets of the station
+-- let a decoder have heard all packets of a station. If the decoder hears the next packet that the
+-- station returns, it has again heard all packets of the station.
 abbrev pub OneMoreHandedOut : Type 0
 OneMoreHandedOut =
     (s new : Sending) (commands : List Packet) (p : Packet) (who who' who'' : Who) (start now after : RegisterMap)
     → HasHeardStation s commands who start who' now → Next s p new → who'' ≡ who' → after ≡ step who' now p
     → HasHeardStation new commands who start who'' after
 
--- if a decoder has heard all packets of a station, it has still heard all of them after the station
--- has accepted one more command
+-- if a decoder has heard all packets that a station has returned, this is still true after the
+-- station has accepted one more command
 abbrev pub OneMoreAccepted : Type 0
 OneMoreAccepted = (s new : Sending) (commands : List Packet) (p : Packet) (who who' : Who) (start now : RegisterMap)
     → HasHeardStation s commands who start who' now

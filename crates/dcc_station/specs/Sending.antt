@@ -29,8 +29,8 @@ idle_sending queue slots repeats =
 abbrev pub copies : ℕ → Packet → ℕ
 copies repeats p = if is_own_write p then repeats + 1 else repeats
 
--- the command `p` displaces `entry`: they are equal, or they conflict, or `p` writes CV29 and both
--- have the same address
+-- the command `p` displaces `entry`: the two packets are equal, or they conflict, or `p` writes
+-- CV29 and both packets have the same address
 abbrev pub Displaces : Packet → Packet → Type 0
 Displaces p entry = (entry ≡ p) ⊎ (Conflict p entry ⊎ ((writes_cv29 p ≡ true) × (address_of entry ≡ address_of p)))
 
@@ -64,15 +64,15 @@ sent_once_more s p rest entries =
     then record s { waiting = rest; sent = 0; entries = entries }
     else record s { sent = s.sent + 1; entries = entries }
 
--- `after` are the entries of a station after one more copy of the command `p`; only the first copy
--- changes the entries
+-- `after` are the entries of a station after one more copy of the command `p`. Only the first copy
+-- changes the entries.
 abbrev pub EntriesAfter : ℕ → ℕ → Packet → List Packet → List Packet → Type 0
 EntriesAfter zero slots p entries after = Refreshes slots p entries after
 EntriesAfter (suc sent) slots p entries after = after ≡ entries
 
--- a station in state `s` returns the packet `out` and goes to state `new`. This packet is a copy of
--- the first command in the queue. If no command waits, it is the first entry, which moves to the
--- end. If there is no entry, it is an idle packet.
+-- a station in state `s` returns the packet `out` and goes to state `new`. The packet `out` is a
+-- copy of the first command in the queue. If no command waits, `out` is the first entry, which
+-- moves to the end. If there is no entry, `out` is an idle packet.
 abbrev pub HandsOut : List Packet → List Packet → Sending → Packet → Sending → Type 0
 HandsOut (p ∷ rest) entries s out new =
     (out ≡ p)

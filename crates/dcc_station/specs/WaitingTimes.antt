@@ -10,7 +10,7 @@ use Rattle.dcc_station.specs.Sending.{Sending, copies, with_command, Next, NextA
 use Rattle.dcc_station.specs.Refresh.{StationRepresents}
 
 -- a station in state `s` returns the packets of a list, one after the other, and goes to state
--- `new`. It can accept commands before, between and after these packets.
+-- `new`. The station can accept commands before, between and after these packets.
 pub data RunsTo : Sending → List Packet → Sending → Type 0 where
   stays : (s : Sending) → RunsTo s [] s
   accepts_one : (s new : Sending) (packets : List Packet) (p : Packet) → RunsTo (with_command s p) packets new
@@ -18,25 +18,27 @@ pub data RunsTo : Sending → List Packet → Sending → Type 0 where
   returns_one : (s between new : Sending) (p : Packet) (packets : List Packet) → Next s p between
       → RunsTo between packets new → RunsTo s (p ∷ packets) new
 
--- if a station returns `packets` one after the other and accepts no command, these packets are a
--- run
+-- if a station in state `s` returns `packets` one after the other and accepts no command, `RunsTo`
+-- holds for these packets
 abbrev pub ReturnedPacketsAreRuns : Type 0
 ReturnedPacketsAreRuns = (s new : Sending) (packets : List Packet) → NextAll s packets new → RunsTo s packets new
 
--- if a station returns the packet `p` after a run, `p` and the packets before it are a run
+-- let `RunsTo` hold for `packets`. If the station then returns the packet `p`, `RunsTo` holds for
+-- `packets` followed by `p`.
 abbrev pub RunsGoOnByPackets : Type 0
 RunsGoOnByPackets =
     (s between new : Sending) (packets : List Packet) (p : Packet) → RunsTo s packets between → Next between p new
     → RunsTo s (packets ++ p ∷ []) new
 
--- if a station accepts the command `p` after a run, the packets before it are still a run
+-- let `RunsTo` hold for `packets`. If the station then accepts the command `p`, `RunsTo` still
+-- holds for `packets`.
 abbrev pub RunsGoOnByCommands : Type 0
 RunsGoOnByCommands =
     (s between : Sending) (packets : List Packet) (p : Packet) → RunsTo s packets between
     → RunsTo s packets (with_command between p)
 
--- the copies of all commands of a list, in order. `repeats` is the number of copies of a command
--- that is no write to the decoder's own address.
+-- the copies of all commands of a list, in order. `repeats` is the number of copies of each command
+-- that is no own write.
 abbrev pub all_copies : ℕ → List Packet → List Packet
 all_copies repeats [] = []
 all_copies repeats (p ∷ later) = replicate (copies repeats p) p ++ all_copies repeats later
@@ -51,8 +53,8 @@ abbrev pub sent_with : Timing → List Packet → List Sent
 sent_with timing packets = map (λ p. record { bytes = spelling p; timing = timing }) packets
 
 -- the next packets of a station are the remaining copies of the commands `before`, then a copy of
--- the command `p` that follows them in the queue. This is the first copy of `p`, unless `before` is
--- empty and copies of `p` were sent already.
+-- the command `p` that follows `before` in the queue. It is the first copy of `p`, unless `before`
+-- is empty and copies of `p` were sent already.
 abbrev pub CommandsAreSentInTurn : Type 0
 CommandsAreSentInTurn =
     (s new : Sending) (commands returned before later packets : List Packet) (p : Packet)
@@ -61,8 +63,8 @@ CommandsAreSentInTurn =
     → (rest : List Packet) × (packets ≡ copies_left s before ++ p ∷ rest)
 
 -- a station accepts the command `p`. The next packets are the remaining copies of the commands that
--- waited before `p`, and then the first copy of `p`. These remaining copies are at most
--- `repeats + 1` packets for each command that waited.
+-- waited before `p`, and then the first copy of `p`. The remaining copies are at most `repeats + 1`
+-- packets for each command that waited.
 abbrev pub CommandsWaitForFewPackets : Type 0
 CommandsWaitForFewPackets =
     (s new : Sending) (commands returned packets : List Packet) (p : Packet) → StationRepresents s commands returned
@@ -77,8 +79,8 @@ SentPacketsAreShort =
     (timing : Timing) (packets : List Packet) → AllByRecursion BytesFit packets
     → length (sent_all (sent_with timing packets)) ≤ length packets * (2 * (timing.preamble + 55))
 
--- the duration in microseconds of a packet of 6 bytes, if all its bits but the preamble and the end
--- bit are zeros
+-- the duration in microseconds of a packet of 6 bytes whose bits between the preamble and the end
+-- bit are all zeros
 abbrev pub longest_time : Timing → ℕ
 longest_time timing = (timing.preamble + 1) * (2 * timing.one) + 54 * (timing.zero_first + timing.zero_second)
 
@@ -89,8 +91,8 @@ SentPacketsTakeFewMicroseconds =
     → sum (sent_all (sent_with timing packets)) ≤ length packets * longest_time timing
 
 -- a station accepts the command `p`, and `first` are the packets before the first copy of `p`.
--- These packets and this copy have at most as many half-bits as `repeats + 1` longest packets for
--- each command that waited, and one longest packet more.
+-- Together, these packets and this copy have at most as many half-bits as the following number of
+-- longest packets: `repeats + 1` for each command that waited, and one more.
 abbrev pub CommandsAreSentInTime : Type 0
 CommandsAreSentInTime =
     (s new : Sending) (commands returned packets : List Packet) (p : Packet) (timing : Timing)
@@ -101,8 +103,8 @@ CommandsAreSentInTime =
     ≤ (length s.waiting * (s.repeats + 1) + 1) * (2 * (timing.preamble + 55)))
 
 -- a station accepts the command `p`, and `first` are the packets before the first copy of `p`.
--- These packets and this copy take at most `longest_time` microseconds for each of `repeats + 1`
--- packets for each command that waited, and for one packet more.
+-- Together, these packets and this copy take at most `longest_time` microseconds for each of the
+-- following packets: `repeats + 1` for each command that waited, and one more.
 abbrev pub CommandsAreSentInMicroseconds : Type 0
 CommandsAreSentInMicroseconds =
     (s new : Sending) (commands returned packets : List Packet) (p : Packet) (timing : Timing)

@@ -1,4 +1,4 @@
-//! Functions that say which packets a station sends, and how often.
+//! Functions that return if a station sends or refreshes a packet, and how many copies it sends.
 
 ghost use Rattle.std.specs.Prelude.{◌≡◌, ◌≤◌};
 ghost use Rattle.dcc_packet.specs.declared.packet.Packet.TheVariants.{Loco as ToLoco};

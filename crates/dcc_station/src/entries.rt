@@ -1,5 +1,5 @@
-//! The entries of a station, which are the packets that it refreshes, and the effect of a command
-//! on them.
+//! The entries of a station, which are the packets that the station refreshes, and the effect of a
+//! command on the entries.
 
 ghost use Rattle.std.specs.Prelude.{◌≡◌, IsTrue, ◌↔◌, slice_get, drop, ◌++◌, ◌∷◌, [], IfSome, IfNone};
 ghost use Rattle.circular_buffer.specs.Buffer.{buffer};
@@ -54,7 +54,7 @@ fn remove_displaced<R: PacketRing>(entries: &mut R, command: &Packet)
     entries.truncate(kept);
 }
 
-/// Returns true if the station removes the entry when it sends the command.
+/// Returns true if the station removes the entry `entry` when it sends the command `command`.
 pub fn displaces(command: &Packet, entry: &Packet) -> bool
     ensures { IsTrue result ↔ Displaces command.now entry.now }
 {
@@ -82,7 +82,7 @@ pub fn displaces_loco(command: &Packet, to: &Address, what: &What) -> bool
 }
 
 /// Returns the result of [`displaces`] for any two packets. The function compares registers, which
-/// takes longer.
+/// takes longer than [`displaces`].
 fn displaces_by_registers(command: &Packet, entry: &Packet) -> bool
     ensures { IsTrue result ↔ Displaces command.now entry.now }
 {

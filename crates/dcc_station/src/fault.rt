@@ -29,11 +29,11 @@ impl StationFault {
     }
 }
 
-/// An error of a command, which the station rejects.
+/// An error of a command that the station refuses.
 #[derive(Clone, Copy, Debug, PartialEq, Eq, Error)]
 pub enum Refused {
-    /// C3: a station does not send the packet: an idle packet, a frame in no row of the table, or a
-    /// broadcast CV access.
+    /// C3: a station does not send the packet, which is an idle packet, a frame in no row of the
+    /// table of packets, or a broadcast CV access.
     #[error("C3: the packet is no command")]
     NotSendable,
     /// C4: the queue is full.

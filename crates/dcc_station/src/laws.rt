@@ -14,9 +14,9 @@ ghost use Rattle.dcc_station.specs.WaitingTimes.{longest_time};
 ghost use Rattle.dcc_wire.specs.NominalTimings.{main_timing};
 ghost use Rattle.std.specs.Prelude.{◌≡◌};
 
-/// Theorem: if no command is partly sent, a decoder that heard every packet has the result of the
-/// commands that left the queue. This result counts each command once and each CV write twice, and
-/// covers each register except Pending.
+/// Theorem: let no command in the queue be partly sent, and let a decoder have heard every packet
+/// of the station. Then the decoder has the result of the commands that have left the queue, each
+/// command once and each own write twice. The theorem is about each register except Pending.
 pub fn refresh_is_transparent()
     ensures { RefreshIsTransparent }
 {}
@@ -28,7 +28,7 @@ pub fn refresh_is_transparent_where_nothing_waits()
 {}
 
 /// Theorem: if the queue is empty, the station returns each entry once, in order. After these
-/// packets the state of the station is as before.
+/// packets the state of the station is the state before these packets.
 pub fn entries_are_handed_out_in_turn()
     ensures { EntriesAreHandedOutInTurn }
 {}
@@ -38,10 +38,10 @@ pub fn waiting_is_the_end()
     ensures { WaitingIsSuffix }
 {}
 
-/// Theorem: the packets that a station returns, and the commands that it accepts between them, are
-/// a run. The clauses are about packets without commands between them, about one more packet, and
-/// about one more command. A caller with its own loop uses this theorem as the premise of
-/// [`commands_are_sent_in_turn`] and [`commands_are_sent_in_time`].
+/// Theorem: the relation `RunsTo` holds for the packets that a station returns, whatever commands
+/// the station accepts between these packets. The clauses are about packets with no command between
+/// them, about one more packet, and about one more command. A caller with its own loop uses this
+/// theorem as the premise of [`commands_are_sent_in_turn`] and [`commands_are_sent_in_time`].
 pub fn runs_go_on()
     ensures returned { ReturnedPacketsAreRuns }
     ensures handed_out { RunsGoOnByPackets }
@@ -49,8 +49,8 @@ pub fn runs_go_on()
 {}
 
 /// Theorem: the next packets of a station are the remaining copies of the first commands of the
-/// queue, and then a copy of the command that follows them. So the number of packets before the
-/// first copy of a command is the number of these remaining copies. Commands that the station
+/// queue, and then a copy of the next command. So the number of packets before the first copy of a
+/// command is the number of remaining copies of the commands before it. Commands that the station
 /// accepts later do not change this number. The theorem is about the states and steps of `Sending`.
 /// `Station`, `FixedStation` and the station in C all have these states and steps.
 pub fn commands_are_sent_in_turn()
@@ -70,16 +70,17 @@ pub fn commands_are_sent_in_time()
 {}
 
 /// Theorem: each packet has at most `2 * (preamble + 55)` half-bits: its preamble, 6 bytes of 9
-/// bits, and its end bit. It takes no more time than a packet of 6 bytes whose bits before the end
-/// bit are all zeros. In the nominal timing of the main track this is 12,540 µs.
+/// bits, and its end bit. Each packet takes no more time than a packet of 6 bytes whose bits
+/// between the preamble and the end bit are all zeros. In the nominal timing of the main track this
+/// is 12,540 µs.
 pub fn sent_packets_are_short()
     ensures half_bits { SentPacketsAreShort }
     ensures microseconds { SentPacketsTakeFewMicroseconds }
     ensures nominal { longest_time main_timing ≡ 12540 }
 {}
 
-/// Theorem: a station sends a packet that switches a binary state as a command, and never refreshes
-/// it.
+/// Theorem: a station sends a packet that switches a binary state only as a command, and never
+/// refreshes such a packet.
 pub fn states_are_no_entries()
     ensures { StatesAreNoEntries }
 {}

@@ -1,4 +1,5 @@
-//! Functions that decide from two instructions if an entry stays after a command.
+//! Functions that decide if an entry stays after a command, from the instructions of the entry and
+//! the command.
 
 ghost use Rattle.std.specs.Prelude.{◌≡◌};
 ghost use Rattle.dcc_station.specs.Inner.Kept as kept;
@@ -8,8 +9,8 @@ use dcc_packet::{Address, GroupBits, Packet, What};
 use dcc_regs::first_function;
 
 /// Returns true if the entry with the instruction `set` to the address `own` stays after the
-/// command. Returns `None` if the station does not refresh this instruction, or if both packets set
-/// the speed of one locomotive.
+/// command. Returns `None` if the station does not refresh the instruction `set`, or if the entry
+/// and the command both set the speed of one locomotive.
 pub fn is_left(command: &Packet, own: &Address, set: &What) -> Option<bool>
     ensures { result ≡ kept.kept_in command.now own.now set.now }
 {
@@ -86,8 +87,8 @@ fn is_left_by_stop(forward: bool, bits: u8, set: &What) -> bool
     has_speed(set, bits / 2, way)
 }
 
-/// Returns true if the entry sets no speed, or if it sets this speed (in the bits of 128 steps) and
-/// this direction.
+/// Returns true if the entry sets no speed. Returns true also if the entry sets the speed `bits`,
+/// in the bits of 128 steps, and the direction `way`.
 fn has_speed(set: &What, bits: u8, way: Option<bool>) -> bool
     ensures { result ≡ kept.speed_kept bits way set.now }
 {
@@ -125,8 +126,8 @@ fn is_left_by_reset(set: &What) -> bool
 }
 
 /// Returns true if an entry stays after a command that switches a function group. The entry stays
-/// if it does not switch this group, or if the command is to all locomotives and the bits are
-/// equal.
+/// if it does not switch this group. It also stays if the command is to all locomotives and both
+/// packets have the same bits.
 fn is_left_by_group(one: bool, bits: &GroupBits, set: &What) -> bool
     ensures { result ≡ kept.group_kept one bits.now set.now }
 {

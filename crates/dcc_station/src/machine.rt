@@ -13,7 +13,7 @@ use crate::fault::Refused;
 use crate::ring::PacketRing;
 use dcc_packet::Packet;
 
-/// Appends a command to the queue. The errors of `take_command` are those of `Station::command`.
+/// Appends a command to the queue. The function has the errors of `Station::command`.
 pub fn take_command<Q: PacketRing>(waiting: &mut Q, packet: Packet) -> Result<(), (Refused, Packet)>
     ensures ok { OnOk result (Q.buffer waiting.new
         ≡ buffer ((Q.buffer waiting.old).items ++ packet ∷ []) (Q.buffer waiting.old).capacity) }
@@ -51,9 +51,9 @@ fn add<Q: PacketRing>(waiting: &mut Q, packet: Packet)
     waiting.push_back(packet);
 }
 
-/// Returns the next packet, as `Station::next` does, for a station with these commands and entries.
-/// The parameter `sent` is the number of copies of the first command that were sent. The parameter
-/// `repeats` is the number of copies of each command.
+/// Returns the next packet, as `Station::next` does, for a station with the commands `waiting` and
+/// the entries `entries`. The parameter `sent` is the number of copies of the first command that
+/// were sent. The parameter `repeats` is the number of copies of each command.
 pub fn hand_out<Q: PacketRing, S: PacketRing>(
     waiting: &mut Q,
     sent: &mut u8,

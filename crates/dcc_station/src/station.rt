@@ -21,11 +21,11 @@ use std::marker::Model;
 /// A command station, with a queue of commands and a list of entries that it refreshes. The queue
 /// and the list are rings.
 ///
-/// The station sends the first command of the queue several times in a row, and a CV write once
-/// more, without another packet between the copies. After its last copy the command leaves the
-/// queue. While the queue is empty, the station sends the entries in turn, because packets can be
-/// lost on the track and must be repeated (NMRA S-9.2). After its creation a station does not
-/// allocate.
+/// The station sends the first command of the queue several times in a row, without another packet
+/// between the copies. An own write gets one copy more than other commands. After its last copy the
+/// command leaves the queue. While the queue is empty, the station sends the entries in turn,
+/// because packets can be lost on the track and must be repeated (NMRA S-9.2). After its creation a
+/// station does not allocate.
 #[derive(Drop)]
 pub struct StationOver<Q: PacketRing, S: PacketRing> {
     commands: Q,
@@ -152,10 +152,10 @@ impl<Q: PacketRing, S: PacketRing> StationOver<Q, S> {
 
     /// Appends a command to the queue.
     ///
-    /// Errors: C3 if a station does not send the packet: an idle packet, a frame in no row of the
-    /// table, or a broadcast CV access. C4 if a station sends the packet, but the queue is full. If
-    /// the function returns an error, it returns the packet too, and the station is unchanged. A
-    /// command that is partly sent is still in the queue.
+    /// Errors: C3 if a station does not send the packet, which is then an idle packet, a frame in
+    /// no row of the table of packets, or a broadcast CV access. C4 if a station sends the packet,
+    /// but the queue is full. With an error the function also returns the packet, and the station
+    /// is unchanged. A command that is partly sent is still in the queue.
     pub fn command(&mut self, packet: Packet) -> Result<(), (Refused, Packet)>
         ensures ok { OnOk result (self.new ≡ with_command self.old packet) }
         ensures err { OnErr result (self.new ≡ self.old) }
@@ -185,8 +185,8 @@ impl<Q: PacketRing, S: PacketRing> StationOver<Q, S> {
     }
 
     /// Returns the next packet. The packet is a copy of the first command of the queue. If the
-    /// queue is empty, the packet is the first entry, which moves to the end. If there is no entry
-    /// either, the packet is an idle packet.
+    /// queue is empty, the packet is the first entry, which moves to the end. If the queue is empty
+    /// and there is no entry, the packet is an idle packet.
     ///
     /// The first copy of a command removes the entries that equal the command or conflict with it.
     /// If the command writes CV29, the entries with the address of the command are removed too. A

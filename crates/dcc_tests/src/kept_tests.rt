@@ -5,9 +5,9 @@ use dcc_service::{ServiceDecoder, ServicePacket};
 use dcc_wire::{Frame, Framer, Halves, Timing};
 use std::test::Fail;
 
-/// Checks that a framer that is saved and restored after each half-bit returns the outcomes of a
-/// framer that runs on. One list of half-bits has no bad half-bit, and in the other list the
-/// hundredth half-bit is bad.
+/// Checks that a framer that is saved and restored after each half-bit returns the same outcomes as
+/// a framer that is not. One list of half-bits has no bad half-bit. In another list the hundredth
+/// half-bit is bad.
 #[test]
 fn a_framer_is_taken_up_behind_each_half(rt: HostRuntime) -> Result<(), Fail> {
     let frame = Frame::of(&[0xC3, 0xE8, 0x3F, 0x7F, 0x6B])?;

@@ -9,7 +9,7 @@ pub struct Noise {
 impl Noise {
     ghost use Rattle.std.specs.Prelude.{◌<◌};
 
-    /// Returns the next number, which is below the limit.
+    /// Returns the next number, which is below the limit `n`.
     pub fn below(&mut self, n: u32) -> u32
         requires { 0 < n }
         ensures { result < n }

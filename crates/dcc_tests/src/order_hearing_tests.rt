@@ -88,9 +88,10 @@ fn a_track_may_come_in_halves_and_pieces(rt: HostRuntime) -> Result<(), Fail> {
     Ok(())
 }
 
-/// The columns of a row are two tracks, true if the locomotive decoders that hear the tracks end
-/// equal, and true if the accessory decoders end equal. The tracks of the third row set a speed, a
-/// function, a pending write, an output and the position of its pair.
+/// The columns of a row are two tracks and two truth values. The first value is true if the
+/// locomotive decoders that hear the tracks end equal. The second value is true if the accessory
+/// decoders end equal. The tracks of the third row set a speed, a function, a pending write, an
+/// output and the position of its pair.
 const TRACKS: [(&str, &str, bool, bool); 6] = [
     ("", "", true, true),
     (
@@ -129,8 +130,8 @@ const TRACKS: [(&str, &str, bool, bool); 6] = [
 
 /// Creates two fleets of a locomotive decoder and an accessory decoder, whose decoders have
 /// different types. The first fleet hears `track`, and the second fleet hears `other` in pieces.
-/// Returns true for the locomotive decoders if they end equal, and true for the accessory decoders
-/// if they end equal.
+/// Returns two truth values: true if the locomotive decoders end equal, and true if the accessory
+/// decoders end equal.
 fn end_equal(
     rt: &impl Abort,
     alloc: Global,

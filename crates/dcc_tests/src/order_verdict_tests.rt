@@ -37,7 +37,7 @@ fn line_of(letter: u8) -> &'static str {
     }
 }
 
-/// Returns the list of the packets for which these letters stand.
+/// Returns the list of the packets for which the letters in `letters` stand.
 fn packets_of(alloc: Global, letters: &str) -> Result<Vec<Packet>, Fail> {
     let mut packets = Vec::new(alloc);
     for letter in letters.as_bytes() {
@@ -150,7 +150,7 @@ fn nothing_changes_once_it_is_done(rt: HostRuntime) -> Result<(), Fail> {
 }
 
 /// Returns a block of 1,000 packets with 256 different speeds for locomotive 3, and two more speeds
-/// at its end. Each two different speeds for one locomotive conflict.
+/// at its end. Every two different speeds for one locomotive conflict.
 fn block(alloc: Global, first: u8, second: u8) -> Result<Vec<Packet>, Fail> {
     let mut packets = Vec::new(alloc);
     let mut number = 7u8;

@@ -99,8 +99,8 @@ fn cv_access_is_told_from_the_rest(rt: HostRuntime) -> Result<(), Fail> {
     Ok(())
 }
 
-/// A byte, the number of a bit place, true if this bit is one, and the byte with this bit set to
-/// one and to zero.
+/// The columns of a row are a byte, the place of a bit, and true if this bit is one. Then come the
+/// byte with this bit set to one, and the byte with this bit set to zero.
 const BITS: [(u8, u8, bool, u8, u8); 5] = [
     (0b0000_0001, 0, true, 0b0000_0001, 0b0000_0000),
     (0b0000_0001, 7, false, 0b1000_0001, 0b0000_0001),

@@ -25,8 +25,8 @@ impl Outcome {
     }
 
     /// Returns true if `word` stands for this outcome. The word for a packet is its bytes in hex.
-    /// The word for a refusal is `H` and the number of the refusal, and then a colon and the bytes
-    /// if there are bytes.
+    /// The word for a refusal is `H` and the number of the refusal. If the refusal has bytes, a
+    /// colon and the bytes follow.
     fn is_told(&self, word: &str) -> bool {
         let (refusal, bytes) = match word.strip_prefix('H') {
             None => ("0", word),
@@ -81,8 +81,8 @@ impl Outcome {
         }
     }
 
-    /// Returns the number of half-bits of the outcome that count for the next preamble: those of
-    /// the end bit, or 0.
+    /// Returns the number of half-bits of the outcome that count for the next preamble: 2 after an
+    /// end bit, otherwise 0.
     fn end_halves(&self) -> usize {
         match self.refusal {
             0 | 3 | 5 => 2,
@@ -91,7 +91,7 @@ impl Outcome {
     }
 }
 
-/// Returns true if the outcomes are those of `text`, which has words such as `84:036261` and
+/// Returns true if `outcomes` are the outcomes in `text`, which has words such as `84:036261` and
 /// `66:H3`.
 pub fn are_told(outcomes: &[(usize, Outcome)], text: &str) -> bool {
     let mut told = 0;

@@ -52,7 +52,7 @@ fn address_kind_at_power_up(rt: HostRuntime) -> Result<(), Fail> {
     Ok(())
 }
 
-/// Returns CVs with these values of CV1, CV17, CV18 and CV29, and 0 in all others.
+/// Returns CVs with the given values of CV1, CV17, CV18 and CV29, and 0 in all other CVs.
 fn address_cvs(cv1: u8, cv17: u8, cv18: u8, cv29: u8) -> [u8; 1024] {
     let mut bytes = cvs(cv29);
     bytes[0] = cv1;

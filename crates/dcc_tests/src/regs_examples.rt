@@ -39,7 +39,7 @@ pub fn cvs(cv29: u8) -> [u8; 1024] {
     cvs
 }
 
-/// Applies the packets of these packet lines to a decoder, one after the other.
+/// Applies the packets of the packet lines `lines` to a decoder, one after the other.
 pub fn hear(decoder: &mut dyn Decoder, lines: &[&str]) -> Result<(), PacketFault> {
     for line in lines {
         let packet = Packet::from_line(line)?;
@@ -48,7 +48,7 @@ pub fn hear(decoder: &mut dyn Decoder, lines: &[&str]) -> Result<(), PacketFault
     Ok(())
 }
 
-/// Returns a `LocoDecoder` with these CVs that has heard the packets of these lines. Asserts that a
+/// Returns a `LocoDecoder` with the given CVs that has heard the packets of `lines`. Asserts that a
 /// `PackedLoco` has equal registers after these packets.
 pub fn heard_by_loco(
     rt: &impl Abort,
@@ -63,7 +63,7 @@ pub fn heard_by_loco(
     Ok(plain)
 }
 
-/// Returns a `BoardDecoder` for board 12 that has heard the packets of these lines. Asserts that a
+/// Returns a `BoardDecoder` for board 12 that has heard the packets of `lines`. Asserts that a
 /// `PackedBoard` has equal registers after these packets.
 pub fn heard_by_board(rt: &impl Abort, lines: &[&str]) -> Result<BoardDecoder, PacketFault> {
     let board = Board::new(12)?;
@@ -75,7 +75,7 @@ pub fn heard_by_board(rt: &impl Abort, lines: &[&str]) -> Result<BoardDecoder, P
     Ok(plain)
 }
 
-/// Asserts that the register of the decoder has this value.
+/// Asserts that the register `register` of the decoder has the value `value`.
 pub fn holds(rt: &impl Abort, decoder: &dyn Decoder, register: Register, value: Value) {
     assert!(rt; decoder.get(register) == Some(value), "{register:?}");
 }

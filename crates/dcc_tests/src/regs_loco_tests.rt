@@ -11,7 +11,7 @@ const STEP: &str = "frame 037477";
 /// Turns F1 on and the other functions of group 0 off.
 const F1_ON: &str = "frame 038182";
 
-/// Sets bit 1 of CV29 to 0, which selects 14 speed steps. The next packet sets it to 1, which
+/// Sets bit 1 of CV29 to 0, which selects 14 speed steps. The next packet sets this bit to 1, which
 /// selects 28 speed steps.
 const TO_14: &str = "frame 03e81cf106";
 
@@ -196,8 +196,8 @@ fn a_reset_leaves_a_new_locomotive(rt: HostRuntime) -> Result<(), Fail> {
 }
 
 /// The value of CV29, packet lines that the decoder at short address 3 hears, and a list of binary
-/// states. If the third value is true, exactly the states of the list must be on, otherwise exactly
-/// the other states.
+/// states. If the third value is true, exactly the states of the list must be on. If it is false,
+/// exactly the states that are not in the list must be on.
 type StateRow = (u8, &'static [&'static str], bool, &'static [u8]);
 
 const STATES: [StateRow; 12] = [

@@ -7,7 +7,8 @@ use dcc_regs::*;
 use dcc_saved::read_who;
 use std::test::Fail;
 
-/// The columns of a row are a packet, and those of five decoders that hear it.
+/// The columns of a row are a packet, and the names of the decoders that hear this packet, out of
+/// five decoders.
 const HEARD_BY: &str = "\
     idle |
     loco all reset | s3 s124 l1000 none b12
@@ -67,9 +68,10 @@ fn notes(rt: HostRuntime) -> Result<(), Fail> {
     Ok(())
 }
 
-/// The columns of a row are `yes` if the two packets conflict, otherwise `no`, and the packet lines
-/// of the packets. A broadcast speed above stop sets no register. `functions 0 16` sets F0 only in
-/// 28 speed steps, and `speed28 f 4` only in 14 speed steps. So these two packets do not conflict.
+/// The first column of a row is `yes` if two packets conflict, otherwise `no`. The other columns
+/// are the packet lines of the two packets. A broadcast speed above stop sets no register.
+/// `functions 0 16` sets F0 only in 28 speed steps, and `speed28 f 4` only in 14 speed steps. So
+/// `functions 0 16` and `speed28 f 4` do not conflict.
 const CONFLICTS: &str = "\
     yes | loco s3 speed28 f 4 | loco s3 speed28 f 31
     no | loco s3 speed28 f 4 | loco s3 speed28 f 4

@@ -25,7 +25,7 @@ fn split(row: &str) -> (&str, &str) {
     }
 }
 
-/// Returns the number that a word gives, or the greatest number if the word is no number.
+/// Returns the number that `word` means, or the greatest number if `word` is no number.
 pub fn number(word: &str) -> u32 {
     match word.parse() {
         Ok(number) => number,
@@ -33,7 +33,7 @@ pub fn number(word: &str) -> u32 {
     }
 }
 
-/// Returns true if `hex` is the text of these bytes, at most six, in hex digits of lower case.
+/// Returns true if `hex` is the text of `bytes`, at most six, in hex digits of lower case.
 pub fn is_hex(bytes: &[u8], hex: &str) -> bool {
     let mut digits = [0; 12];
     match digits.get_mut(..bytes.len().saturating_mul(2)) {
@@ -44,7 +44,8 @@ pub fn is_hex(bytes: &[u8], hex: &str) -> bool {
     }
 }
 
-/// Returns the frame whose bytes `hex` gives. Returns `None` if the bytes form no frame.
+/// Returns the frame whose bytes `hex` has as hex digits. Returns `None` if these bytes form no
+/// frame.
 pub fn frame_of(hex: &str) -> Option<Frame> {
     let mut bytes = [0; 6];
     let bytes = bytes.get_mut(..hex.len() / 2)?;
@@ -54,8 +55,8 @@ pub fn frame_of(hex: &str) -> Option<Frame> {
     }
 }
 
-/// Appends the half-bits of a text. A word of the text is a duration in microseconds, or a run such
-/// as `58*28`, or a packet such as `=036261` in the timing of the main track.
+/// Appends the half-bits of a text. A word of the text is a duration in microseconds, a run such as
+/// `58*28`, or a packet such as `=036261`. Packets have the timing of the main track.
 pub fn push_halves(halves: &mut Vec<u16>, text: &str) -> Result<(), AllocError> {
     for word in text.split_whitespace() {
         match word.strip_prefix('=') {

@@ -15,9 +15,10 @@ fn with_cv1(value: u8) -> ServiceDecoder {
     ServiceDecoder::new(&cvs)
 }
 
-/// The columns of a row are the name, CV1 at the start, frames, and CV1 at the end. A frame follows
-/// `+` if the decoder acknowledges it, and `-` if it does not. 7c000a76 writes CV1, 7c070873 writes
-/// CV8, and 74000a7e verifies CV1. A decoder never writes CV8.
+/// The columns of a row are the name, CV1 at the start, frames, and CV1 at the end. The sign `+`
+/// stands before a frame that the decoder acknowledges, and `-` stands before any other frame. The
+/// frame 7c000a76 writes CV1, 7c070873 writes CV8, and 74000a7e verifies CV1. A decoder never
+/// writes CV8.
 const STEPS: &str = "\
     the second copy of a write | 3 | -000000 -7c000a76 +7c000a76 +7c000a76 | 10
     an idle packet ends service | 3 | -000000 -7c000a76 +7c000a76 +7c000a76 -ff00ff -7c000a76 -7c000a76 | 10

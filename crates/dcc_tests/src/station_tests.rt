@@ -32,8 +32,8 @@ fn line_of(letter: &str) -> &'static str {
 }
 
 /// Makes one step of a station and asserts the result. `+A`: the station accepts command A. `-A:4`:
-/// the station rejects command A with error C4 and returns it. `=A`: the station sends packet A.
-/// `0:1`: no command waits, and the station has one entry.
+/// the station refuses command A with error C4 and returns this command. `=A`: the station sends
+/// packet A. `0:1`: no command waits, and the station has one entry.
 fn go<Q: PacketRing, S: PacketRing>(
     rt: &impl Abort,
     station: &mut StationOver<Q, S>,

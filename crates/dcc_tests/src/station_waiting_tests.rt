@@ -57,9 +57,10 @@ fn push_copies(copies: &mut Vec<Packet>, packet: &Packet, n: u32) -> Result<(), 
 }
 
 /// Lets a station accept `ahead` commands and send some packets, so that commands wait and the
-/// first of them can be partly sent. Then the station accepts one more command and a later command.
-/// Asserts which packets the station sends before the first copy of the one command, and the number
-/// of half-bits until this copy is complete. Returns the number of these packets.
+/// first waiting command can be partly sent. Then the station accepts a tested command and a later
+/// command. The function asserts which packets the station sends before the first copy of the
+/// tested command, and the number of half-bits until this copy is complete. Returns the number of
+/// packets before this copy.
 fn wait_for_copy<Q: PacketRing, S: PacketRing>(
     rt: &impl Abort,
     alloc: Global,

@@ -24,7 +24,7 @@ fn frame(noise: &mut Noise) -> Result<Frame, Fail> {
     Ok(Frame::with_error_byte(&bytes[..len])?)
 }
 
-/// Returns a timing with a preamble of this many ones.
+/// Returns a timing with `preamble` ones in the preamble.
 fn timing(noise: &mut Noise, preamble: u8) -> Result<Timing, Fail> {
     let one = noise.below(7) as u16 + 55;
     let zero = noise.below(2) as u16 * 9805 + 95;
@@ -44,7 +44,7 @@ fn send(
     Ok(Outcome::of(&Seen::Packet(frame)).map(|outcome| (track.len(), outcome)))
 }
 
-/// Asserts that the framer and the simple search find exactly these outcomes.
+/// Asserts that the framer and the simple search find exactly the given outcomes.
 fn shows(
     rt: &impl Abort,
     alloc: Global,
@@ -95,7 +95,8 @@ fn any_half_bits(alloc: Global, noise: &mut Noise) -> Result<Vec<u16>, Fail> {
     Ok(halves)
 }
 
-/// Returns the duration of a half-bit. In the second kind of any half-bits one in five is bad.
+/// Returns the duration of a half-bit. If `kind` is 2, one in five half-bits is bad, otherwise no
+/// half-bit is bad.
 fn one_of(noise: &mut Noise, kind: u32) -> u16 {
     match noise.below(if kind == 2 { 5 } else { 4 }) {
         0 | 1 => 58,

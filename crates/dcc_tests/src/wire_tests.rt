@@ -32,7 +32,7 @@ fn halves_show(
 /// are six bytes `01` and the zero of a seventh byte.
 ///
 /// After a body that is cut off, only 12 half-bits of the next preamble are left. So the framer
-/// does not find the next packet, and finds the packet after it.
+/// does not find the next packet, but finds the packet after the next packet.
 const SEEN: &str = "\
     no halves | |
     a packet at its last half | 58*28 100*14 58*4 100*4 58*4 100*6 58*2 100*6 58*4 100*8 58*4 | 84:036261
@@ -76,7 +76,7 @@ fn a_packet_that_is_cut_shows_nothing(rt: HostRuntime) -> Result<(), Fail> {
     Ok(())
 }
 
-/// Checks that the half-bits of a packet are those of its preamble and its body, in the timings of
+/// Checks that a packet consists of the half-bits of its preamble and its body, in the timings of
 /// both tracks.
 #[test]
 fn what_is_sent(rt: HostRuntime) -> Result<(), Fail> {
@@ -123,8 +123,8 @@ const FRAMES: [(&[u8], u8); 5] = [
     (&[1, 2, 3, 4, 5, 1], 0),
 ];
 
-/// Bytes, and the frame of these bytes with their error byte, in hex. The text is empty if these
-/// bytes have no such frame.
+/// Bytes, and the frame of these bytes with their error byte, in hex. The text is empty if the
+/// bytes are too few or too many for a frame.
 const WITH_ERROR_BYTE: [(&[u8], &str); 5] = [
     (&[0xFF, 0x00], "ff00ff"),
     (&[0x03, 0x62], "036261"),

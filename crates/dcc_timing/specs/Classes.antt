@@ -4,14 +4,14 @@ use Rattle.std.specs.List.{filter}
 use Rattle.dcc_timing.specs.declared.classes.Classes.{Classes}
 use Rattle.dcc_timing.specs.Tallies.{IsTally}
 
--- true if `us` is the duration of a half of a one, 52 to 64 microseconds
+-- true if `us` is a duration of half of a one, 52 to 64 microseconds
 abbrev pub is_half_of_one : ℕ → Bool
 is_half_of_one us = nat_le 52 us && nat_le us 64
 
 abbrev pub is_half_of_zero : ℕ → Bool
 is_half_of_zero us = nat_le 90 us && nat_le us 10000
 
--- true if `us` is a duration below the limits of a half of a one
+-- true if `us` is a duration below the limits of half of a one
 abbrev pub is_below : ℕ → Bool
 is_below us = nat_lt us 52
 

@@ -3,7 +3,7 @@ use Rattle.std.specs.Prelude.{ℕ, List, map, take, sum, Option}
 use Rattle.dcc_timing.specs.Numbers.{most, steps}
 use Rattle.dcc_timing.specs.PacketBits.{packets_in}
 
--- the times in microseconds from the beginning of `halves` to the end of each packet in it
+-- the times in microseconds from the beginning of `halves` to the end of each packet in `halves`
 unfoldable pub ends_in : List ℕ → List ℕ
 ends_in halves = map (λ packet. sum (take packet.0 halves)) (packets_in halves)
 

@@ -1,5 +1,4 @@
--- The part of the times at which packets end that is stored. The longest gap follows from this
--- part.
+-- The stored part of the times at which packets end. The longest gap follows from this part.
 use Rattle.std.specs.Prelude.{◌≡◌, ℕ, List, fold, Option, None, Some}
 use Rattle.dcc_timing.specs.declared.gaps.Gaps.{Gaps}
 use Rattle.dcc_timing.specs.Numbers.{most, steps}

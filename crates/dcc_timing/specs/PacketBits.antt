@@ -10,8 +10,8 @@ use Rattle.dcc_timing.specs.Numbers.{keep_last}
 use Rattle.dcc_timing.specs.Classes.{is_half_of_one, is_half_of_zero}
 use Rattle.dcc_timing.specs.Tallies.{IsTally}
 
--- for an outcome that is a packet: the number of half-bits from the beginning of the list to the
--- end of the packet, and the bytes of the packet. `None` for any other outcome.
+-- the end of an outcome that is a packet, and the bytes of the packet. The end is a number of
+-- half-bits from the beginning of the list. The result is `None` for any other outcome.
 abbrev pub packet_at : ℕ × Seen → Option (ℕ × List ℕ)
 packet_at (place, Packet bytes) = Some (place + 1, bytes)
 packet_at (place, Refused fault) = None
@@ -22,8 +22,8 @@ packet_at (place, Nothing) = None
 unfoldable pub packets_in : List ℕ → List (ℕ × List ℕ)
 packets_in halves = filter_map packet_at (seen halves)
 
--- the number of half-bits of a packet with `bytes` bytes: those of ten ones before its start bit,
--- nine bits for each byte, and the end bit
+-- the number of half-bits of a packet with `bytes` bytes. The bits of the packet are ten ones
+-- before its start bit, nine bits for each byte, and the end bit.
 abbrev pub packet_length : ℕ → ℕ
 packet_length bytes = 22 + 18 * bytes
 
@@ -40,7 +40,7 @@ packet_bits_of halves packet = pairs (keep_last (packet_length (length packet.1)
 unfoldable pub packet_bits_in : List ℕ → List (ℕ × ℕ)
 packet_bits_in halves = flat_map (packet_bits_of halves) (packets_in halves)
 
--- true if both half-bits of `bit` have the class of a half of a one
+-- true if both half-bits of `bit` have the class of half of a one
 abbrev pub is_one_pair : ℕ × ℕ → Bool
 is_one_pair bit = is_half_of_one bit.0 && is_half_of_one bit.1
 

@@ -31,7 +31,7 @@ impl Bits {
         }
     }
 
-    /// Adds the bits that consist of these half-bits, two half-bits for each bit.
+    /// Adds the bits that the half-bits `halves` form, with two half-bits for each bit.
     pub(crate) fn add(&mut self, halves: &[u16])
         requires { bits_count self.old + length halves.now < 2 ^ 40 }
         ensures bits { (bits : List (ℕ × ℕ)) → AreBits self.old bits → AreBits self.new (bits ++ pairs halves.now) }

@@ -1,6 +1,6 @@
 //! Statistics of a list of half-bits, which show how near a track is to the limits of NMRA S-9.1.
 //!
-//! Each value is the value for the whole list. The list can be given half-bit by half-bit or run by
+//! Each statistic covers the whole list. A caller can pass the list half-bit by half-bit or run by
 //! run.
 //!
 //! This crate does not allocate memory.

@@ -7,8 +7,8 @@ ghost use Rattle.dcc_timing.specs.Numbers.{keep_last};
 use arrayvec::ArrayVec;
 use std::marker::Model;
 
-/// The last 130 numbers of a list, or all of them if there are fewer. The longest packet has 130
-/// half-bits with the last ten ones of its preamble.
+/// The last 130 numbers of a list, or all numbers of a shorter list. The longest packet and the
+/// last ten ones of its preamble have 130 half-bits together.
 #[derive(Drop)]
 pub struct LastNumbers {
     /// The last 130 numbers of the list, and sometimes numbers before them.
@@ -63,7 +63,7 @@ impl LastNumbers {
         }
     }
 
-    /// Returns the last `n` numbers of the list, or all of them if there are fewer.
+    /// Returns the last `n` numbers of the list, or all numbers if the list has fewer.
     pub fn last(&self, n: usize) -> &[u16]
         requires { n ≤ 130 }
         ensures { result.now ≡ keep_last n self.now }
@@ -73,7 +73,7 @@ impl LastNumbers {
     }
 }
 
-/// Returns the last 130 of these numbers, or all of them if there are fewer.
+/// Returns the last 130 of `numbers`, or all numbers if the list has fewer.
 fn last_of(numbers: &[u16]) -> Numbers
     ensures items { result.items ≡ keep_last 130 numbers.now }
     ensures room { array_vec_len result < 512 }

@@ -4,7 +4,7 @@ ghost use Rattle.std.specs.Prelude.{◌<◌, ◌≤◌, ◌*◌, ◌^◌};
 
 use crate::numbers::{greater, lesser};
 
-/// The count, the sum, the least and the greatest of a list of numbers.
+/// The count, the sum, the least number and the greatest number of a list of numbers.
 #[derive(Clone, Copy, Debug, PartialEq, Eq)]
 pub struct Tally {
     count: u64,

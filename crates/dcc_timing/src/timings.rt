@@ -15,8 +15,7 @@ use dcc_wire::Framer;
 /// The statistics of a list of half-bits, which show how near a track is to the limits of NMRA
 /// S-9.1.
 ///
-/// The list grows by runs of equal half-bits, and each value is the value for the whole list so
-/// far.
+/// The list grows by runs of equal half-bits, and each statistic covers the whole list so far.
 ///
 /// Invariant: a list of half-bits has these statistics.
 #[derive(Drop)]
@@ -62,7 +61,7 @@ impl Timings {
     /// Appends `n` half-bits of `us` microseconds to the list. The longer list must have fewer than
     /// 2^32 half-bits.
     ///
-    /// The time of a call does not depend on `n`. The function reads at most as many half-bits one
+    /// The time of a call does not depend on `n`. The function takes at most as many half-bits one
     /// by one as the longest packet has.
     #[inline(always)]
     pub fn take(&mut self, us: u16, n: u32)

@@ -43,8 +43,8 @@ pub record TakesText (how : Encode) (frames : List (List ℕ)) (text : List ℕ)
 abbrev pub TakesEncoding : Encode → List (List ℕ) → InputState → Type 0
 TakesEncoding how frames = TakesText how frames (encoding how frames)
 
--- an encoding of `frames` that an input can read is a capture without an error, and its half-bits
--- are exactly those of `frames`
+-- an encoding of `frames` that an input can read is a capture without an error, whose half-bits are
+-- exactly the half-bits of `frames`
 abbrev pub EncodingsAreCaptures : Type 0
 EncodingsAreCaptures = (how : Encode) (frames : List (List ℕ)) (input : InputState) → TakesEncoding how frames input
     → capture_in input (closed_encoding how frames) ≡ record { said = halves_to_send how frames; fault = None }
@@ -56,8 +56,8 @@ EncodedFramesAreSeen = (how : Encode) (frames : List (List ℕ)) (input : InputS
     → AllFrames (to_send how frames)
     → seen (capture_in input (closed_encoding how frames)).said ≡ at_last_halves 0 (to_send how frames)
 
--- the listing of `frames` was written. It has one line for each frame, in order, with the number of
--- its last half-bit.
+-- the listing of `frames` was written. The listing has one line for each frame, in order, with the
+-- number of the last half-bit of the frame.
 abbrev pub ListsSent : Bool → WriterState → WriterState → List Sent → Type 0
 ListsSent words before after frames =
     (text : List ℕ) × IsListing words (at_last_halves 0 frames) text × Appends before.contents after.contents text

@@ -47,22 +47,24 @@ pub record Streams : Type 0 where
   -- the state of the writer
   pub writer : WriterState
 
--- the result is an error, or an ending without a verdict and without a value, and `holds` is true
--- for it
+-- the result is an error, or an ending without a verdict and without a value. The property `holds`
+-- is true for this result.
 abbrev pub Done : Result Ending ToolFault → (Result (Unit {0}) ToolFault → Type 0) → Type 0
 Done (Ok ending.Done) holds = holds (Ok tt)
 Done (Ok (ending.Verdict verdict)) holds = ⊥
 Done (Ok (ending.Value value)) holds = ⊥
 Done (Err fault) holds = holds (Err fault)
 
--- the result is an error, or an ending with a verdict, and `holds` is true for it
+-- the result is an error, or an ending with a verdict. The property `holds` is true for this
+-- result.
 abbrev pub Judged : Result Ending ToolFault → (Result Verdict ToolFault → Type 0) → Type 0
 Judged (Ok ending.Done) holds = ⊥
 Judged (Ok (ending.Verdict verdict)) holds = holds (Ok verdict)
 Judged (Ok (ending.Value value)) holds = ⊥
 Judged (Err fault) holds = holds (Err fault)
 
--- the result is an error, or an ending with a value or with no value, and `holds` is true for it
+-- the result is an error, or the ending of `readcv`, with or without a value. The property `holds`
+-- is true for this result.
 abbrev pub Valued : Result Ending ToolFault → (Result (Option ℕ) ToolFault → Type 0) → Type 0
 Valued (Ok ending.Done) holds = ⊥
 Valued (Ok (ending.Verdict verdict)) holds = ⊥
@@ -102,8 +104,8 @@ pub record WritesPackets (how : Encode) (old : Streams) (answer : Result (Unit {
         (λ sizes. StationText how (idle_sending sizes.0 sizes.1 sizes.2) old.input old.writer answer
         new.input new.writer)
 
--- `encode` creates a requested station before it reads or writes. If this fails, `answer` is the
--- error, and nothing was read or written.
+-- `encode` creates a requested station before it reads or writes. If the creation fails, `answer`
+-- is its error, and nothing was read or written.
 pub record EncodesLines (how : Encode) (old : Streams) (answer : Result (Unit {0}) ToolFault) (new : Streams) : Type 0
   where
     pub past_limits : (answer ≡ Err (told.Usage usages.BadStation)) ↔ (is_past_limits how.station ≡ true)

@@ -16,8 +16,8 @@ pub use dcc_saved::laws::fleets_are_read_back;
 /// the text of `encode` is a capture of exactly the half-bits that are sent, without an error.
 ///
 /// The listing of this capture has one line for each packet, in order, and no refusal. The line has
-/// the number of the last half-bit of the packet. With a station, the packets are those that the
-/// station returns.
+/// the number of the last half-bit of the packet. With a station, the listing has the packets that
+/// the station returns.
 pub fn what_is_encoded_is_shown()
     // for the text of a list of frames
     ensures capture { EncodingsAreCaptures }
@@ -29,8 +29,8 @@ pub fn what_is_encoded_is_shown()
     ensures station { StationPacketsAreShown }
 {}
 
-/// Theorem: an operation that returns Ok has written exactly the bytes listed below, if the bytes
-/// of its reader and writer are known.
+/// Theorem: an operation that returns Ok has written exactly the following bytes, if the contracts
+/// of its reader and writer give their bytes.
 ///
 /// `show` writes a listing of the capture, with words or without words. `lost` writes the lines of the
 /// lost packets of the capture, with words or without words. `timing` writes the statistics of the

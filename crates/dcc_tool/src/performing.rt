@@ -27,10 +27,10 @@ pub enum Request {
     /// The operation `encode`: writes the half-bits or the bytes of packet lines.
     Encode(Encode),
 
-    /// The operation `run`: applies a capture to the decoders of a decoder text.
+    /// The operation `run`: lets the decoders of a decoder text hear a capture.
     Run,
 
-    /// The operation `same_input`: compares two captures for this decoder.
+    /// The operation `same_input`: compares two captures for the decoder in this variant.
     Same(Who),
 
     /// The operation `readcv`: reads a CV on a programming track. The track is empty, or has the
@@ -101,7 +101,8 @@ fn read_on_track<R: Source, W: Sink>(
     readcv(Some(&mut decoder), cv, writer)
 }
 
-/// Creates the locomotive decoder with this state, which must be possible.
+/// Creates the locomotive decoder with the state `state`. A decoder must be able to have this
+/// state.
 fn loco_of(state: &LocoState) -> PackedLoco
     requires { is_state state.now ≡ true }
     ensures who { ⟦<PackedLoco as Decoder>⟧.who result ≡ loco_who state.now }
@@ -113,7 +114,7 @@ fn loco_of(state: &LocoState) -> PackedLoco
     }
 }
 
-/// Creates the accessory decoder with this state, whose address must not be 511.
+/// Creates the accessory decoder with the state `state`, whose address must not be 511.
 fn board_of(state: &BoardState) -> PackedBoard
     requires { nat_le state.now.board.number 510 ≡ true }
     ensures who { ⟦<PackedBoard as Decoder>⟧.who result ≡ board_who state.now }

@@ -10,8 +10,8 @@
 //! 3. The input.
 //!
 //! 4. The number of bytes that a read gives, the number of reads before a read fails, and `again`
-//! if the input never ends. If this column is empty, the input is read byte by byte, and again at
-//! once.
+//!    if the input never ends. If this column is empty, the operation runs twice: with an input
+//!    that is read byte by byte, and with an input that is read at once.
 //!
 //! 5. The limits of half-bits and of bytes of the input.
 //!

@@ -1,4 +1,5 @@
-//! The operations of the program with one input, and the words for them in the tables.
+//! The operations of the program with one input, and the words in the tables that name these
+//! operations.
 
 use crate::rows::number;
 use dcc_regs::{BoardDecoder, Decoder, LocoDecoder};
@@ -22,7 +23,7 @@ pub enum Call {
     Encode(Encode),
     Run,
     /// The operation `same` for locomotive 3. The input is the second capture, and `CAPTURE` is the
-    /// first.
+    /// first capture.
     Same,
     SameInput,
 }

@@ -69,8 +69,8 @@ fn calls() -> [Played; 9] {
     ]
 }
 
-/// Returns true for `show` and `encode`. If the input has an error, they write the results of the
-/// input that precedes the error. The other operations then write nothing.
+/// Returns true for `show` and `encode`. If the input has an error, `show` and `encode` write the
+/// results of the input before the error. All other operations then write nothing.
 fn lists_up_to_a_fault(call: Call) -> bool {
     match call {
         Call::Show { .. } | Call::Encode(_) => true,

@@ -22,7 +22,7 @@ fn split(row: &str) -> (&str, &str) {
     }
 }
 
-/// Returns the number that a word gives, or the greatest number if the word is no number.
+/// Returns the number that `word` means, or the greatest number if `word` is no number.
 pub fn number(word: &str) -> u32 {
     match word.parse() {
         Ok(number) => number,

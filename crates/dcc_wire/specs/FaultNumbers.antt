@@ -7,7 +7,7 @@ use Rattle.dcc_wire.specs.declared.frame.FrameFault.TheVariants.{Length, XorNotZ
 use Rattle.dcc_wire.specs.declared.timing.TimingFault.{TimingFault}
 use Rattle.dcc_wire.specs.declared.timing.TimingFault.TheVariants.{One, Zero, Preamble}
 
--- the number of an outcome error, 1 to 5 for the error codes H1 to H5
+-- the number of the error of a refusal, 1 to 5 for the error codes H1 to H5
 abbrev pub fault_number : Fault → ℕ
 fault_number BadHalf = 1
 fault_number SplitBit = 2

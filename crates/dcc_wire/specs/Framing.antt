@@ -1,4 +1,5 @@
--- Packets in a list of half-bits, found by place in the whole list (NMRA S-9.2; RCN-211).
+-- The outcomes in a list of half-bits (NMRA S-9.2; RCN-211). The definition computes the places at
+-- which bodies begin in the whole list.
 use Rattle.std.specs.Prelude.{◌≡◌, ℕ, suc, zero, ◌+◌, ◌-◌, min, nat_le, Bool, true, false, ◌&&◌, List, [], ◌∷◌, ◌++◌}
 use Rattle.std.specs.Prelude.{map, reverse, length, take, drop, slice_index_or, if◌then◌else◌}
 use Rattle.std.specs.Option.{option_map_or}
@@ -23,25 +24,26 @@ is_zero Zero = true
 is_zero Bad = false
 
 -- the number of half-bits that the body at the beginning of `halves` uses. If the body has an
--- outcome, it uses the half-bits of the outcome except those of the end bit. If the body is
--- unfinished, it uses all half-bits.
+-- outcome, the body uses the half-bits of the outcome except the half-bits of the end bit. If the
+-- body is unfinished, it uses all half-bits.
 unfoldable pub halves_used : List Half → ℕ
 halves_used halves = option_map_or (λ p. p.0 - ones_left p.1) (outcome_of halves) (length halves)
 
--- the place in `halves` after all half-bits that the bodies at the start places use. The list of
--- start places is in descending order.
+-- the place in `halves` after the last half-bit that a body uses. The bodies begin at the places of
+-- a list in descending order.
 unfoldable pub used_up : List Half → List ℕ → ℕ
 used_up halves [] = 0
 used_up halves (start ∷ earlier) = start + halves_used (drop start halves)
 
 -- true if a body begins at `place` in `halves`: the half-bit at `place` is a zero, and at least 20
--- half-bits of ones stand directly before it that no body at an earlier start place uses
+-- half-bits of ones stand directly before `place`. No body that begins at a place in `earlier` uses
+-- these half-bits.
 unfoldable pub is_start : List Half → List ℕ → ℕ → Bool
 is_start halves earlier place =
     is_zero (slice_index_or halves place Bad)
     && nat_le 20 (ones_at_end (drop (used_up halves earlier) (take place halves)))
 
--- the start places in `halves` below a place, in descending order
+-- the places in `halves` below a given place at which a body begins, in descending order
 unfoldable pub starts_below : List Half → ℕ → List ℕ
 starts_below halves zero = []
 starts_below halves (suc place) =
@@ -57,8 +59,8 @@ unfoldable pub outcome_at : List Half → ℕ → List (ℕ × Seen)
 outcome_at halves start =
     option_map_or (λ p. (start + p.0 - 1, p.1) ∷ []) (outcome_of (drop start halves)) []
 
--- the outcomes of the bodies that begin at the start places, in ascending order. The list of start
--- places is in descending order.
+-- the outcomes of the bodies in `halves` that begin at the places of a list. The places are in
+-- descending order, and the outcomes are in ascending order.
 unfoldable pub outcomes_at : List Half → List ℕ → List (ℕ × Seen)
 outcomes_at halves [] = []
 outcomes_at halves (start ∷ earlier) = outcomes_at halves earlier ++ outcome_at halves start
@@ -79,8 +81,8 @@ abbrev pub is_hunting : Rest → Bool
 is_hunting (Hunting ones) = true
 is_hunting (InBody halves) = false
 
--- the state of a framer between two bodies. It counts the half-bits of ones at the end of `halves`,
--- up to 20, that the start places `places` do not use.
+-- the state of a framer between two bodies. The state counts the half-bits of ones at the end of
+-- `halves`, up to 20, without half-bits that the bodies at `places` use.
 unfoldable pub hunting : List Half → List ℕ → Rest
 hunting halves places = Hunting (min 20 (ones_at_end (drop (used_up halves places) halves)))
 

@@ -11,12 +11,12 @@ pub record Kept : Type 0 where
   pub in_body : Bool
   -- between two bodies: the number of half-bits of ones
   pub ones : ℕ
-  -- in a body: true if the first half-bit of an unfinished bit was received. Then `first` is true
-  -- if this half-bit is half of a one.
+  -- in a body: `has_first` is true if the first half-bit of an unfinished bit was received. In this
+  -- case, `first` is true for half of a one and false for half of a zero.
   pub has_first : Bool
   pub first : Bool
-  -- in a body: the exclusive or of the complete bytes; the bits after these bytes as a number; how
-  -- many bits this number has; the complete bytes
+  -- in a body: `xor` is the exclusive or of the complete bytes, which are in `bytes`. `count` bits
+  -- follow these bytes. `shift` is the number that these bits form.
   pub xor : ℕ
   pub shift : ℕ
   pub count : ℕ
@@ -31,8 +31,8 @@ kept_halves k =
 abbrev pub kept_rest : Kept → Rest
 kept_rest k = if k.in_body then InBody (kept_halves k) else Hunting k.ones
 
--- `k` is the state of a framer after some list of half-bits. In a body, the numbers in `k` are
--- those of an unfinished body.
+-- `k` is the state of a framer after some list of half-bits. In a body, the numbers in `k` are the
+-- numbers of an unfinished body.
 pub record IsKept (k : Kept) : Type 0 where
   pub packed : k.in_body ≡ true → IsPacked k.bytes k.xor k.count k.shift
   pub unfinished : k.in_body ≡ true → bytes_in 6 (packed_bits k.bytes k.count k.shift) ≡ None

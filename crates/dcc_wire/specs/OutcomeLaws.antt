@@ -1,5 +1,5 @@
--- Theorems about the table of outcomes. It has exactly one row for each list of half-bits that
--- begins with a zero, and `outcome_of` is the outcome of this row.
+-- Theorems about the table of outcomes. The table has exactly one row for each list of half-bits
+-- that begins with a zero, and `outcome_of` returns the outcome of this row.
 use Rattle.std.specs.Prelude.{◌≡◌, ◌⊎◌, ◌↔◌, ℕ, List, ◌∷◌, Some, None}
 use Rattle.dcc_wire.specs.declared.half.Half.{Half}
 use Rattle.dcc_wire.specs.declared.half.Half.TheVariants.{Zero}
@@ -7,8 +7,8 @@ use Rattle.dcc_wire.specs.declared.seen.Seen.{Seen}
 use Rattle.dcc_wire.specs.Outcomes.{outcome_of}
 use Rattle.dcc_wire.specs.OutcomeTable.{Comes, IsUnfinished}
 
--- the first `n` half-bits of a list that begins with a zero fit a row of the table with `outcome`
--- if and only if `outcome_of` returns `n` and `outcome` for this list
+-- let a list of half-bits begin with a zero. The first `n` half-bits fit a row of the table with
+-- `outcome` if and only if `outcome_of` returns `n` and `outcome` for the list.
 abbrev pub OutcomesAreRows : Type 0
 OutcomesAreRows =
     (more : List Half) (n : ℕ) (outcome : Seen)

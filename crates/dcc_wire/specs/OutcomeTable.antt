@@ -38,12 +38,13 @@ IsRow halves (Packet bytes) = IsFrame bytes × (halves ≡ body bytes)
 IsRow halves (Refused (ErrorByte bytes)) =
     AllBytes bytes × (3 ≤ length bytes) × (length bytes ≤ 6) × (xor_of bytes ≢ 0)
     × (halves ≡ body bytes)
--- H3: `halves` are the body of 1 or 2 bytes; a packet has at least 3 bytes (RCN-211)
+-- H3: `halves` are the body of 1 or 2 bytes, which is too short, since a packet has at least 3
+-- bytes (RCN-211)
 IsRow halves (Refused TooShort) =
     (bytes : List ℕ) × AllBytes bytes × (1 ≤ length bytes) × (length bytes ≤ 2)
     × (halves ≡ body bytes)
--- H4: `halves` are the body of 6 bytes with a zero in place of the end bit; a packet has at most 6
--- bytes (RCN-211)
+-- H4: `halves` are the body of 6 bytes with a zero in place of the end bit, since a packet has at
+-- most 6 bytes (RCN-211)
 IsRow halves (Refused TooLong) =
     (bytes : List ℕ) × (front : List Half) × AllBytes bytes × (length bytes ≡ 6)
     × (body bytes ≡ front ++ One ∷ One ∷ []) × (halves ≡ front ++ Zero ∷ Zero ∷ [])

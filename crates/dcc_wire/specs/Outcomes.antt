@@ -18,15 +18,15 @@ bits_in (One ∷ One ∷ halves) = true ∷ bits_in halves
 bits_in (Zero ∷ Zero ∷ halves) = false ∷ bits_in halves
 bits_in _ = []
 
--- the half-bits of a list that follow `bits_in` of this list
+-- the half-bits of a list after the pairs of half-bits that `bits_in` reads as bits
 unfoldable pub behind_bits : List Half → List Half
 behind_bits (One ∷ One ∷ halves) = behind_bits halves
 behind_bits (Zero ∷ Zero ∷ halves) = behind_bits halves
 behind_bits halves = halves
 
--- The bytes at the beginning of a list of bits, and the bit after them. Each byte follows a zero. A
--- one in place of this zero is the end bit, and the bytes end there. After `n` bytes they end in
--- any case. The result is `None` if the bits end earlier.
+-- the bytes at the beginning of a list of bits, and the bit after the last byte. Each byte comes
+-- after a zero. The bytes end at a one in the place of this zero, or at any bit after `n` bytes.
+-- The result is `None` if the list of bits ends earlier.
 unfoldable pub bytes_in : ℕ → List Bool → Option (List ℕ × Bool)
 bytes_in n [] = None
 bytes_in n (true ∷ bits) = Some ([], true)
@@ -46,8 +46,9 @@ body_outcome bytes =
 unfoldable pub by_bits : List ℕ × Bool → ℕ × Seen
 by_bits p = (18 * length p.0 + 2, if p.1 then body_outcome p.0 else Refused TooLong)
 
--- the outcome of a body and its number of half-bits, or `None` if the body is unfinished. The body
--- has `n` half-bits that form bits. The next two half-bits form no bit.
+-- the outcome of a body and its number of half-bits, or `None` if the body is unfinished. The first
+-- `n` half-bits of the body form bits. The next two half-bits, which begin the given list, form no
+-- bit.
 unfoldable pub by_halves : ℕ → List Half → Option (ℕ × Seen)
 by_halves n [] = None
 by_halves n (Bad ∷ halves) = Some (n + 1, Refused BadHalf)

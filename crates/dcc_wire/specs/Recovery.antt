@@ -11,16 +11,15 @@ use Rattle.dcc_wire.specs.Framing.{Rest, Hunting, InBody, rest, seen}
 use Rattle.dcc_wire.specs.Outcomes.{outcome_of}
 use Rattle.dcc_wire.specs.Sending.{Sent, sent_all, at_last_halves, AllFrames}
 
--- if half-bits of ones follow a framer with an unfinished body, the outcome of this body, and the
--- number of these half-bits up to its last one. The result is `None` if no body is unfinished.
+-- the outcome of the unfinished body of a framer if only half-bits of ones follow, and the number
+-- of these half-bits that the body uses. The result is `None` if no body is unfinished.
 unfoldable pub ended_by_ones : Rest → Option (ℕ × Seen)
 ended_by_ones (Hunting ones) = None
 ended_by_ones (InBody halves) =
     option_map (λ p. (p.0 - length halves, p.1)) (outcome_of (halves ++ replicate 18 One))
 
--- if a preamble follows `noise`, the outcome of the body that is unfinished after `noise`, and the
--- number of half-bits of the preamble up to its last half-bit. The result is `None` if no body is
--- unfinished.
+-- the outcome of the body that is unfinished after `noise` if a preamble follows, and the number of
+-- half-bits of the preamble that this body uses. The result is `None` if no body is unfinished.
 abbrev pub open_end : List ℕ → Option (ℕ × Seen)
 open_end noise = ended_by_ones (rest noise)
 
@@ -30,8 +29,9 @@ unfoldable pub at_open_end : ℕ → Option (ℕ × Seen) → List (ℕ × Seen)
 at_open_end place None = []
 at_open_end place (Some p) = (place + p.0 - 1, p.1) ∷ []
 
--- the packet `first` as an outcome at the place of its last half-bit. The list is empty if the
--- packet is lost: a body that was unfinished ends in the last 18 half-bits of its preamble.
+-- the packet `first` as an outcome at the place of its last half-bit. The list is empty if an
+-- unfinished body ends in the last 18 half-bits of the preamble of `first`, because `first` is lost
+-- then.
 unfoldable pub at_first : ℕ → Option (ℕ × Seen) → Sent → List (ℕ × Seen)
 at_first place None first = at_last_halves place (first ∷ [])
 at_first place (Some p) first =
@@ -44,8 +44,8 @@ NoiseCostsNoLaterPacket =
     → seen (noise ++ sent_all (first ∷ others))
     ≡ seen (noise ++ sent_all (first ∷ [])) ++ at_last_halves (length (noise ++ sent_all (first ∷ []))) others
 
--- after noise, at most two outcomes are seen: that of a body that is unfinished after the noise,
--- and the first packet, unless it is lost
+-- after noise, at most two outcomes are seen. A body that is unfinished after the noise has an
+-- outcome, and the first packet is seen unless it is lost.
 abbrev pub NoiseCostsAtMostTheFirst : Type 0
 NoiseCostsAtMostTheFirst =
     (noise : List ℕ) (first : Sent) → IsFrame first.bytes

@@ -56,7 +56,7 @@ impl Frame {
     ghost use Rattle.dcc_wire.specs.Frames.{IsFrame, frame_fault};
     ghost use Rattle.dcc_wire.specs.FrameOf.{frame_of, frame_with_error_byte};
 
-    /// Returns the frame of these bytes. The last byte is the error byte (NMRA S-9.2).
+    /// Returns the frame that consists of `bytes`. The last byte is the error byte (NMRA S-9.2).
     ///
     /// Errors: L1 if there are fewer than 3 or more than 6 bytes. L2 if there are 3 to 6 bytes, but
     /// their exclusive or is not zero.
@@ -69,8 +69,8 @@ impl Frame {
         Ok(Frame::of_valid(bytes))
     }
 
-    /// Returns Ok if these bytes form a frame, without a copy of the bytes. The errors of `check`
-    /// are those of [`Frame::of`].
+    /// Returns Ok if `bytes` form a frame. The function does not copy the bytes, and has the errors
+    /// of [`Frame::of`].
     #[inline(always)]
     pub fn check(bytes: &[u8]) -> Result<(), FrameFault>
         ensures exact { MatchResult result (λ _. frame_of bytes.now ≡ Ok bytes.now) (λ fault. frame_of bytes.now
@@ -86,7 +86,7 @@ impl Frame {
         Ok(())
     }
 
-    /// Returns the frame of these bytes, followed by their error byte (NMRA S-9.2).
+    /// Returns the frame that consists of `bytes` and their error byte (NMRA S-9.2).
     ///
     /// Errors: L1 if there are fewer than 2 or more than 5 bytes.
     pub fn with_error_byte(bytes: &[u8]) -> Result<Frame, FrameFault>
@@ -100,7 +100,7 @@ impl Frame {
         Ok(Frame { bytes: all })
     }
 
-    /// Returns the frame of these bytes. The bytes must form a frame.
+    /// Returns the frame that consists of `bytes`, which must form a frame.
     pub(crate) fn of_valid(bytes: &[u8]) -> Frame
         requires { IsFrame bytes.now }
         ensures { result ≡ bytes.now }
@@ -110,7 +110,8 @@ impl Frame {
         }
     }
 
-    /// Returns the frame of these bytes without a copy. The bytes must form a frame.
+    /// Returns the frame that consists of `bytes`, which must form a frame. The function does not
+    /// copy the bytes.
     #[inline(always)]
     pub(crate) fn of_bytes(bytes: PacketBytes) -> Frame
         requires { IsFrame bytes }

@@ -7,9 +7,9 @@ use std::marker::Model;
 /// Finds the packets in half-bits that come one at a time (NMRA S-9.2; RCN-211).
 ///
 /// Between bodies the framer counts half-bits of ones. If a half-bit of a zero directly follows 20
-/// or more half-bits of ones, this half-bit is the first of a start bit. From there on, two
-/// half-bits form a bit. So the start bit determines how half-bits pair into bits, and the first
-/// half-bit that was pushed does not. After each outcome the framer looks for the next preamble.
+/// or more half-bits of ones, this half-bit is the first half-bit of a start bit. From the start
+/// bit on, every two half-bits form a bit. So it does not matter with which half-bit of a signal
+/// the framer begins. After each outcome the framer looks for the next preamble.
 #[derive(Drop)]
 pub struct Framer {
     pub(crate) state: State,
@@ -104,10 +104,10 @@ impl Framer {
         }
     }
 
-    /// Takes both half-bits of a bit of a body, if no half-bit of this bit has come and the class
-    /// `half` is not bad. Returns the outcome of the second half-bit. The first of the two
-    /// half-bits has no outcome. Returns `None`, and does not change the framer, if the half-bits
-    /// form no bit.
+    /// Takes two half-bits of the class `half`, which form a bit of a body. Returns the outcome of
+    /// the second half-bit. The first half-bit has no outcome. Returns `None`, and does not change
+    /// the framer, if the two half-bits form no bit of a body. This is so between bodies, after the
+    /// first half-bit of a bit, and for a bad class.
     #[inline(always)]
     pub(crate) fn take_bit(&mut self, half: Half) -> Option<Seen>
         ensures none { IfNone result (self.new ≡ self.old) }
@@ -180,8 +180,8 @@ pub(crate) fn begins_body(ones: u8, half: Half) -> bool
     half == Half::Zero && ones >= 20
 }
 
-/// Returns the number of half-bits of ones, counted up to 20, after one more half-bit that begins
-/// no body.
+/// Returns the number of half-bits of ones, counted up to 20, after `ones` half-bits of ones and
+/// one half-bit of the class `half`, which begins no body.
 #[inline(always)]
 #[tactic(auto, unfolding(crate::specs::Inner::Steps::rest_after))]
 pub(crate) fn counted(ones: u8, half: Half) -> u8
@@ -194,8 +194,8 @@ pub(crate) fn counted(ones: u8, half: Half) -> u8
     if ones < 20 { ones + 1 } else { 20 }
 }
 
-/// Returns the number of half-bits of ones, counted up to 20, after `n` more half-bits of the class
-/// `half` that begin no body.
+/// Returns the number of half-bits of ones, counted up to 20, after `ones` half-bits of ones and
+/// `n` half-bits of the class `half`, which begin no body.
 fn count_on(ones: u8, half: Half, n: u32) -> u8
     ensures { result ≡ ones_after ones half n }
 {

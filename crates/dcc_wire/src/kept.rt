@@ -24,8 +24,8 @@ pub struct KeptFramer {
     /// bit of this half-bit.
     has_first: bool,
     first: bool,
-    /// The exclusive or of the complete bytes of the body. The next fields are the bits after these
-    /// bytes, the number of these bits, and the bytes.
+    /// The exclusive or of the complete bytes of the body. The fields `shift`, `count` and `bytes`
+    /// are the bits after the complete bytes, the number of these bits, and the complete bytes.
     xor: u8,
     shift: u8,
     count: u8,
@@ -253,8 +253,8 @@ impl KeptFramer {
         seen
     }
 
-    /// Returns the outcome of the body, which ends with this half-bit. The half-bit is bad, or is
-    /// the second half-bit of a bit.
+    /// Returns the outcome of the body, which ends with a half-bit of the class `half`. This
+    /// half-bit is bad, or is the second half-bit of a bit.
     fn outcome(&self, half: Half) -> Seen
         requires { answer_to (kept_rest self.now) half ≢ Seen.Nothing }
         ensures { result ≡ answer_to (kept_rest self.now) half }

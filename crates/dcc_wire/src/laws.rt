@@ -19,8 +19,8 @@ pub fn sent_packets_are_seen()
     ensures { (packets : List Sent) → AllFrames packets → seen (sent_all packets) ≡ at_last_halves 0 packets }
 {}
 
-/// Theorem: two lists of half-bits have the same outcomes if their classes are the same at each
-/// place.
+/// Theorem: two lists of half-bits have the same outcomes if the half-bits at each place have the
+/// same class.
 #[tactic(auto, using(crate::proofs::FramerSteps::classing))]
 pub fn classes_decide_the_outcomes()
     ensures { (durations others : List ℕ) → map class_of durations ≡ map class_of others
@@ -30,8 +30,8 @@ pub fn classes_decide_the_outcomes()
 /// Theorem: a receiver that measures each half-bit with an error of at most 3 microseconds loses
 /// nothing that a station sends.
 ///
-/// A station sends ones of 55 to 61 and zeros of 95 to 9900 microseconds. With such errors they
-/// stay within 52 to 64 and within 90 to 10000 microseconds.
+/// A station sends ones of 55 to 61 and zeros of 95 to 9900 microseconds. With an error of at most
+/// 3 microseconds, the measured half-bits are within 52 to 64 and within 90 to 10000 microseconds.
 #[tactic(auto, using(crate::proofs::FramerSteps::measuring))]
 pub fn measured_packets_are_seen()
     // A framer sees each packet at its last half-bit, and nothing else.
@@ -45,9 +45,10 @@ pub fn measured_packets_are_seen()
 
 /// Theorem: noise costs at most the first packet that is sent after it.
 ///
-/// Noise is any list of half-bits. If it leaves a body unfinished, the preamble of the first packet
-/// completes this body, and the outcome can be a packet that nobody sent. The first packet is lost
-/// if its preamble has 14 to 17 ones and the body ends in the last 18 half-bits of this preamble.
+/// Noise is any list of half-bits. If the noise leaves a body unfinished, the preamble of the first
+/// packet completes this body, and the outcome can be a packet that nobody sent. The first packet
+/// is lost if its preamble has 14 to 17 ones and the body ends in the last 18 half-bits of this
+/// preamble.
 #[tactic(auto, using(crate::proofs::FramerSteps::recovering))]
 pub fn noise_costs_at_most_the_first_packet()
     // A framer sees each packet after the first one at its last half-bit, and nothing else.
@@ -63,22 +64,22 @@ pub fn noise_costs_at_most_the_first_packet()
     ensures long { LongPreamblesLoseNothing }
 {}
 
-/// Theorem: if noise replaces one of three copies of a packet in a row, a framer sees one of the
-/// other two at its last half-bit.
+/// Theorem: let noise replace one of three copies of a packet in a row. A framer then sees one of
+/// the other two copies at its last half-bit.
 pub fn one_of_three_copies_is_seen()
     ensures { OneOfThreeCopiesIsSeen }
 {}
 
-/// Theorem: the outcomes of a list of half-bits are a prefix of the outcomes of each longer list
-/// that begins with it.
+/// Theorem: if a list of half-bits is a prefix of a longer list, its outcomes are a prefix of the
+/// outcomes of the longer list.
 #[tactic(auto, using(crate::proofs::FramerSteps::growing))]
 pub fn more_halves_only_add()
     ensures { SeenOnlyGrows }
 {}
 
-/// Theorem: let a list of half-bits begin with a half-bit of a zero. The outcome of the list is
-/// that of the row of the table that fits. The list has no outcome if the row for unfinished bodies
-/// fits.
+/// Theorem: let a list of half-bits begin with a half-bit of a zero. The outcome of the list is the
+/// outcome of the row of the table that fits. The list has no outcome if the row for unfinished
+/// bodies fits.
 pub fn outcomes_are_the_rows_of_the_table()
     ensures rows { OutcomesAreRows }
     ensures unfinished { NoOutcomeIsUnfinished }

@@ -47,8 +47,9 @@ impl Framer {
     /// of these half-bits has an outcome, since equal half-bits cannot form a preamble and a start
     /// bit.
     ///
-    /// The function takes at most the 110 half-bits of one body one or two at a time. If no further
-    /// half-bit begins a body, the rest of the run changes only the number of half-bits of ones.
+    /// The function takes at most 110 half-bits, as many as one body has, one or two at a time.
+    /// When no later half-bit of the run can begin a body, the function takes all later half-bits
+    /// in one step.
     #[inline(always)]
     pub fn push_run(&mut self, us: u16, n: u32) -> RunSeen
         // The framer represents at least one list of half-bits.

@@ -16,14 +16,14 @@ pub record IsFrontLine (bytes line : List ℕ) : Type 0 where
   pub begins : BeginsWithLine bytes line
   pub says : is_skipped line ≡ false
 
--- the first `len` of `bytes` are a valid line, and a line feed follows them
+-- the first `len` bytes of `bytes` are a valid line, and a line feed follows this line
 pub record IsEndedLine (bytes : List ℕ) (len : ℕ) : Type 0 where
   pub inside : len < length bytes
   pub ends : slice_index_or bytes len 0 ≡ 10
   pub is_line : IsOneLine (take len bytes)
 
--- the first `len` of `bytes` are a valid line that is blank or a comment, and a line feed follows
--- them
+-- the first `len` bytes of `bytes` are a valid line that is blank or a comment, and a line feed
+-- follows this line
 pub record IsSkippedLine (bytes : List ℕ) (len : ℕ) : Type 0 where
   pub ended : IsEndedLine bytes len
   pub skipped : is_skipped (take len bytes) ≡ true

@@ -49,7 +49,7 @@ abbrev pub TakesAll : (List Packet → Progress → Type 0) → List Packet → 
 TakesAll Took packets = (progress : Progress) × (progress.ended ≡ true) × Took packets progress
 
 -- one of two sources has the error `fault`, or `fault` is U6 and an allocation failed. Any number
--- of packets of the sources without an error were read.
+-- of packets of the source without an error was read.
 abbrev pub OneStops : (ToolFault → Type 0) → (List Packet → Progress → Type 0) → (ToolFault → Type 0)
     → (List Packet → Progress → Type 0) → ToolFault → Type 0
 OneStops Fails Took OtherFails OtherTook fault =

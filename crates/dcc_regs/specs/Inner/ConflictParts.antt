@@ -43,8 +43,8 @@ abbrev pub both_meet : {A : Type 0} → (A → A → Bool) → Option A → Opti
 both_meet meet (Some a) (Some b) = meet a b
 both_meet meet a b = false
 
--- true if some accessory decoder hears packets to board `a` and packets to board `b`: they are
--- equal, or one of them is the broadcast 511
+-- true if some accessory decoder hears packets to board `a` and packets to board `b`: `a` and `b`
+-- are equal, or one of them is the broadcast 511
 abbrev pub boards_meet : ℕ → ℕ → Bool
 boards_meet a b = a == b || a == 511 || b == 511
 

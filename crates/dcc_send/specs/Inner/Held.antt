@@ -40,8 +40,8 @@ pub record HoldsAnswers (how : Encode) (s : sending.Sending) (items : List Asked
   pub answers : AnswersAll how s items bytes new
   pub holds : Holds before after (held ++ bytes) left
 
--- a prefix of the bytes `held` and the answers of a station in state `s` was written. These are the
--- answers to the first requests of `items`.
+-- a prefix of the bytes `held` and of the answers of a station in state `s` was written. The
+-- answers belong to the first requests of `items`.
 pub record HeldFront (how : Encode) (s : sending.Sending) (items : List Asked) (before after : WriterState)
     (held : List ℕ) : Type 0 where
   pub first : List Asked

@@ -1,5 +1,5 @@
--- The decision if an entry of the table stays after a command. It depends on the instructions of
--- both.
+-- The decision if an entry of a station stays after a command. The decision depends on the
+-- instruction of the entry and on the instruction of the command.
 use Rattle.std.specs.Prelude.{ℕ, Bool, true, false, not, ◌&&◌, ◌||◌, ◌==◌, nat_lt, ◌/◌, Option, None, Some}
 use Rattle.std.specs.Prelude.{if◌then◌else◌}
 use Rattle.dcc_packet.specs.Address.{same_address}
@@ -14,8 +14,8 @@ use Rattle.dcc_regs.specs.FunctionBits.{first_function}
 use Rattle.dcc_regs.specs.Writes.{writes_mode}
 use Rattle.dcc_station.specs.Commands.{is_refreshed}
 
--- true if a command keeps the direction `forward` of an entry: it sets this direction, or no
--- direction
+-- true if a command keeps the direction `forward` of an entry: the command sets this direction, or
+-- no direction
 abbrev pub way_kept : Option Bool → Bool → Bool
 way_kept None forward = true
 way_kept (Some true) forward = forward
@@ -28,23 +28,23 @@ speed_kept set way (Speed28 forward bits) = nat_lt set 2 && ((bits.bits / 2 == s
 speed_kept set way (Speed128 forward bits) = (bits.bits == set) && way_kept way forward
 speed_kept set way what = true
 
--- true if an entry stays after a reset: it is a stop forward, or it turns no function on
+-- true if an entry stays after a reset: the entry is a stop forward, or it turns no function on
 abbrev pub reset_kept : What → Bool
 reset_kept (Speed28 forward bits) = forward && (bits.bits == 0)
 reset_kept (Speed128 forward bits) = forward && (bits.bits == 0)
 reset_kept (Functions bits) = bits.bits == 0
 reset_kept what = true
 
--- true if an entry stays after a command with the function group `set`: it is no function group or
--- another group. If `one` is false, the command is for all locomotives, and the same group with the
--- same bits stays too.
+-- true if an entry stays after a command with the function group `set`: the entry sets no function
+-- group, or another function group. If `one` is false, the command is for all locomotives, and the
+-- same group with the same bits stays too.
 abbrev pub group_kept : Bool → GroupBits → What → Bool
 group_kept one set (Functions bits) =
     not (first_function set.group == first_function bits.group) || (not one && (set.bits == bits.bits))
 group_kept one set what = true
 
--- true if `entry` stays after a speed of 28 steps with `bits` to all decoders, which takes effect
--- only if it is a stop
+-- true if `entry` stays after a speed command of 28 steps with `bits` to all decoders. Such a
+-- command takes effect only if it is a stop.
 abbrev pub stop_kept : Bool → ℕ → What → Bool
 stop_kept forward bits entry =
     not (nat_lt bits 4) || speed_kept (bits / 2) (if bits == 0 || bits == 2 then Some forward else None) entry
@@ -57,8 +57,8 @@ kept_by_all (Speed128 forward bits) entry = speed_kept bits.bits (Some forward) 
 kept_by_all (Functions bits) entry = group_kept false bits entry
 kept_by_all what entry = true
 
--- true if `entry` stays after a command to its locomotive; `None` if both set the speed, since this
--- definition does not decide that case
+-- true if `entry` stays after a command to its locomotive. The result is `None` if the entry and
+-- the command both set the speed, since this definition does not decide that case.
 abbrev pub kept_by_one : What → What → Option Bool
 kept_by_one Reset entry = Some (reset_kept entry)
 kept_by_one (Functions bits) entry = Some (group_kept true bits entry)
@@ -68,14 +68,15 @@ kept_by_one (Speed128 forward bits) (Functions others) = Some true
 kept_by_one (Speed128 forward bits) entry = None
 kept_by_one what entry = Some (not (writes_mode what))
 
--- true if the instruction `entry` to the locomotive `own` stays after the instruction `what`;
--- `None` if both set the speed of one locomotive
+-- true if the instruction `entry` to the locomotive `own` stays after the instruction `what`. The
+-- result is `None` if both instructions set the speed of one locomotive.
 abbrev pub kept_of : Address → What → Address → What → Option Bool
 kept_of Broadcast what own entry = Some (kept_by_all what entry)
 kept_of to what own entry = if same_address own to then kept_by_one what entry else Some true
 
--- true if the instruction `entry` to the locomotive `own` stays after a command. It is `None` if
--- the station does not refresh `entry`, or if both set the speed of one locomotive.
+-- true if the instruction `entry` to the locomotive `own` stays after a command. The result is
+-- `None` if the station does not refresh `entry`, or if `entry` and the command both set the speed
+-- of one locomotive.
 abbrev pub kept_in : Packet → Address → What → Option Bool
 kept_in (Loco to what) own entry = if is_refreshed (Loco own entry) then kept_of to what own entry else None
 kept_in command own entry = if is_refreshed (Loco own entry) then Some true else None

@@ -1,5 +1,5 @@
--- The number of items that each part of the statistics has counted. Each number has a bound, so no
--- count overflows.
+-- The number of items that each part of the statistics has counted. Each number has an upper bound,
+-- so that no count overflows.
 use Rattle.std.specs.Prelude.{ℕ, ◌+◌}
 use Rattle.dcc_timing.specs.declared.bits.Bits.{Bits}
 use Rattle.dcc_timing.specs.declared.classes.Classes.{Classes}

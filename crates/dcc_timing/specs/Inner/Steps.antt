@@ -5,7 +5,7 @@ use Rattle.dcc_wire.specs.declared.seen.Seen.TheVariants.{Nothing, Packet, Refus
 use Rattle.dcc_timing.specs.Numbers.{keep_last}
 use Rattle.dcc_timing.specs.PacketBits.{packet_length, pairs}
 
--- the lesser of two numbers, or `number` if the other one is `None`
+-- the lesser of two numbers, or `number` if the other number is `None`
 abbrev pub lesser : Option ℕ → ℕ → ℕ
 lesser None number = number
 lesser (Some other) number = min other number
@@ -21,8 +21,8 @@ bits_shown (Packet bytes) = Some (packet_length (length bytes))
 bits_shown (Refused fault) = None
 bits_shown Nothing = None
 
--- the bits of a packet with `count` half-bits. Its last half-bit is the last one of `halves`. The
--- list is empty if there is no packet.
+-- the bits of a packet with `count` half-bits, which are the last half-bits of `halves`. The list
+-- is empty if there is no packet.
 abbrev pub bits_among : Option ℕ → List ℕ → List (ℕ × ℕ)
 bits_among None halves = []
 bits_among (Some count) halves = pairs (keep_last count halves)

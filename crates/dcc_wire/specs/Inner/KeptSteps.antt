@@ -1,4 +1,5 @@
--- The effect of one half-bit that completes no outcome on the state of a framer as plain numbers.
+-- The effect of one half-bit that completes no outcome. The state of the framer is stored as plain
+-- numbers.
 use Rattle.std.specs.Prelude.{◌≡◌, ◌<◌, ◌⊎◌, Bool, false, true, length}
 use Rattle.dcc_wire.specs.declared.half.Half.{Half}
 use Rattle.dcc_wire.specs.declared.seen.Seen.TheVariants.{Nothing}

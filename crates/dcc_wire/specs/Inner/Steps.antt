@@ -12,8 +12,8 @@ unfoldable pub answer_of : Option (ℕ × Seen) → Seen
 answer_of None = Nothing
 answer_of (Some p) = p.1
 
--- the state of a framer after the half-bits `halves` of a body. The framer is between two bodies
--- after the outcome `p`, otherwise still in the body.
+-- the state of a framer that took the half-bits `halves` of a body. If the body has an outcome `p`,
+-- the framer is between two bodies. Otherwise it is still in this body.
 unfoldable pub left_of : List Half → Option (ℕ × Seen) → Rest
 left_of halves None = InBody halves
 left_of halves (Some p) = Hunting (ones_left p.1)
