@@ -23,7 +23,8 @@ address_number Broadcast = 0
 address_number (Short address) = address.number
 address_number (Long address) = address.number
 
--- the number of the first function of a function group
+-- the number of a function group: 0 for F0 to F4, otherwise the number of the first function of the
+-- group
 abbrev pub group_number : Group → ℕ
 group_number F0 = 0
 group_number F5 = 5
@@ -68,7 +69,7 @@ instruction_numbers (CvVerify cv value) = record (of_kind 7) { cv = cv.number; v
 instruction_numbers (CvBitWrite cv place one) = record (of_kind 8) { cv = cv.number; place = place.place; one = one }
 instruction_numbers (CvBitVerify cv place one) = record (of_kind 9) { cv = cv.number; place = place.place; one = one }
 
--- the C structure of a packet
+-- the C structure of a packet. A field that the kind of the packet does not use is 0.
 abbrev pub packet_numbers : Packet → DccPacket
 packet_numbers Idle = of_kind 0
 packet_numbers (Loco to what) = record (instruction_numbers what) { to = address_kind to; address = address_number to }

@@ -21,9 +21,9 @@ pub record IsReading (r : DccReader) (so_far : CvAnswers) : Type 0 where
   pub few : length so_far.answers ≤ 8
   pub numbers : r ≡ reader_numbers so_far
 
--- `answer` is the number for the result of a reading after an answer. The number 0 means that a
--- further question follows, and `reader` then has the reading. The number 1 means that the reading
--- ended with `value`, and 2 means that it ended without a value.
+-- `answer` is the number that `dcc_reader_answer` returns for the result of a reading. The number 0
+-- means that a further question follows, and `reader` then has the reading. The number 1 means that
+-- the reading ended with `value`. The number 2 means that the reading ended without a value.
 abbrev pub Tells : Reading → ℕ → DccReader → ℕ → Type 0
 Tells (More so_far) answer reader value = (answer ≡ 0) × IsReading reader so_far
 Tells (Value told) answer reader value = (answer ≡ 1) × (value ≡ told)

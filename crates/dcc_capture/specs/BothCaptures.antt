@@ -42,16 +42,18 @@ abbrev pub behind_mark : ℕ → ℕ → List PlacedWord → Option KeptFault �
 behind_mark line most words last =
     if has_more_words line words then fault_alone (Number line) else only_second (halves_of_words most words last)
 
--- both captures of an input whose first capture begins with `run`. `rest` gives both captures after
--- `run` for the remaining limit. If `run` has more half-bits than the limit `most`, the error is
--- U7.
+-- both captures of an input whose first capture begins with `run`, if the limit allows `most`
+-- half-bits. The function `rest` gives both captures of the words after `run`, for the number of
+-- half-bits that the limit allows after `run`. If `run` has more than `most` half-bits, the error
+-- is U7.
 abbrev pub counted_first : ℕ → Run → (ℕ → Both) → Both
 counted_first most run rest =
     if nat_le run.n most then in_front (replicate run.n run.us) (rest (most - run.n)) else fault_alone TooMuch
 
--- both captures of an input whose first capture begins with a word on line `line`. `rest` gives
--- both captures after the run of this word for the remaining limit. If the word is no run, the
--- error is U2.
+-- both captures of an input whose first capture begins with a word on line `line`, if the limit
+-- allows `most` half-bits. The function `rest` gives both captures of the words after this word,
+-- for the number of half-bits that the limit allows after the run of the word. If the word is no
+-- run, the error is U2.
 abbrev pub spelled_first : ℕ → ℕ → Option Run → (ℕ → Both) → Both
 spelled_first most line None rest = fault_alone (Number line)
 spelled_first most line (Some run) rest = counted_first most run rest
@@ -72,11 +74,11 @@ abbrev pub Said : Type 0
 Said = ℕ → List ℕ → Option KeptFault → Both
 
 -- both captures of the bytes that are still to be read from `input`. The word before these bytes is
--- on line `before`.
+-- on line `before`, or `before` is 0 if there is no such word.
 abbrev pub both_from : ℕ → InputState → Said
 both_from before input end bytes last = both_of before input.halves end (ended_words input.place bytes) last
 
--- both captures that the function `said` gives for the allowed bytes of `text`, as many as the
--- limit of `input`
+-- both captures that the function `said` gives for `text`. If `text` has more bytes than the limit
+-- of `input` allows, `said` gets only the allowed bytes, and the error U7 after them.
 abbrev pub in_limit : Said → InputState → List ℕ → Both
 in_limit said input text = within_limit (said (all_lines input text + 1)) input text

@@ -12,31 +12,32 @@ use Rattle.dcc_io.specs.LineEnd.{IsBehindLine}
 use Rattle.dcc_capture.specs.Capture.{NextRunsOver}
 use Rattle.dcc_capture.specs.BothCaptures.{Said, fault_alone, in_front, behind_mark, both_from, in_limit}
 
--- for any bytes that follow `used`, the function `said` of the following bytes gives both captures
--- of `input`
+-- the input reads `used` in state `input`, and any bytes `more` can follow. The function `said`,
+-- applied to `more`, gives both captures of the bytes `used` and `more`. The word before `used` is
+-- on line `before`.
 abbrev pub SaysBehind : ℕ → InputState → Said → List ℕ → Type 0
 SaysBehind before input said used = (end : ℕ) (more : List ℕ) (last : Option KeptFault)
     → both_from before input end (used ++ more) last ≡ said end more last
 
--- the input read the bytes of `text` before `rest`, and the function `said` of the following bytes
--- gives both captures
+-- the input read the bytes of `text` before `rest`. The function `said`, applied to the bytes after
+-- these bytes, gives both captures of the input.
 abbrev pub LeadsIn : ℕ → InputState → InputState → Said → List ℕ → List ℕ → Type 0
 LeadsIn before old new said text rest = Uses (SaysBehind before old said) old new text rest
 
--- between the states `old` and `new`, the input was read without an error, and the function `said`
--- of the following bytes gives both captures
+-- the input was read from the state `old` to the state `new` without an error. The function `said`,
+-- applied to the bytes that are still to be read, gives both captures of the input.
 abbrev pub LeadsTo : ℕ → InputState → InputState → Said → Type 0
 LeadsTo before old new said = Took (SaysBehind before old said) old new
 
--- both captures of an input that has read the half-bits `halves`. The first capture begins with
--- `halves`, and the following bytes contain the rest of both captures. The word before these bytes
--- is on line `before`.
+-- both captures of an input that has read the half-bits `halves` of its first capture. The bytes
+-- that are still to be read contain the other half-bits of both captures. The word before these
+-- bytes is on line `before`.
 abbrev pub first_so_far : List ℕ → ℕ → InputState → Said
 first_so_far halves before input end more last = in_front halves (both_from before input end more last)
 
--- both captures of an input that has read the first capture and the word `---` at the beginning of
--- line `line`. The first capture consists of `halves`, and the following bytes contain the second
--- capture.
+-- both captures of an input that has read its first capture and the word `---` at the beginning of
+-- line `line`. The first capture consists of `halves`. The bytes that are still to be read contain
+-- the second capture.
 abbrev pub first_is : List ℕ → ℕ → InputState → Said
 first_is halves line input end more last =
     in_front halves (behind_mark line input.halves (ended_words input.place more) last)
@@ -55,7 +56,7 @@ StopsBoth before old fault new =
     (λ text. in_limit (both_from before old) old text ≡ fault_alone fault) old fault new
 
 -- the input read some half-bits of the first capture, and its next word is a run of more half-bits
--- than the remaining limit allows
+-- than the limit then allows
 pub record FirstRunsOver (before : ℕ) (old new : InputState) : Type 0 where
   pub halves : List ℕ
   pub line : ℕ
@@ -64,8 +65,8 @@ pub record FirstRunsOver (before : ℕ) (old new : InputState) : Type 0 where
   pub next : NextRunsOver mid new
 
 -- the input has read the lines that `LinesAt` gives for an error of the first capture. If the line
--- `---` is missing, it has read all lines. If a run exceeds the limit, it has read the lines up to
--- this run.
+-- `---` is missing, the input has read all lines. If a run exceeds the limit, the input has read
+-- the lines up to this run.
 abbrev pub FirstLinesAt : ℕ → InputState → KeptFault → InputState → Type 0
 FirstLinesAt before old (Line line fault) new = IsAtEnd new.text × UsesAllLines old new
 FirstLinesAt before old TooMuch new = LinesAt old TooMuch new ⊎ FirstRunsOver before old new

@@ -53,12 +53,12 @@ fresh remaining failures halves bytes = record {
   failures = failures;
 }
 
--- the number of lines that are read after all bytes of `text` were read from `input`
+-- the number of lines that `input` has read when it has read all bytes of `text`
 abbrev pub all_lines : InputState → List ℕ → ℕ
 all_lines input text = lines_through input.lines input.place.line text
 
--- the number of lines that are read after the bytes `used` were read from `input`, if more bytes
--- follow them
+-- the number of lines that `input` has read when it has read the bytes `used`, if more bytes follow
+-- them
 abbrev pub lines_up_to : InputState → List ℕ → ℕ
 lines_up_to input used = all_lines input (used ++ 10 ∷ [])
 

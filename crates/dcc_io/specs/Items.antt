@@ -31,8 +31,9 @@ in_text grammar input text = within_limit (grammar input) input text
 abbrev pub before_failure : {A : Type 0} → Grammar A → InputState → List ℕ → Items A
 before_failure grammar input used = grammar input used (Some kept.Read)
 
--- an input that reads `used` in state `old` goes to state `new`. For any bytes that follow `used`,
--- the items of all bytes in `old` are `items` and then the items of the following bytes in `new`.
+-- an input that reads the bytes `used` in state `old` goes to state `new`. Let any bytes `more`
+-- follow `used`. The items of `used` and `more` in state `old` are `items`, and then the items of
+-- `more` in state `new`.
 abbrev pub PrefixParsesTo : {A : Type 0} → Grammar A → InputState → List A → InputState → List ℕ → Type 0
 PrefixParsesTo grammar old items new used = (more : List ℕ) (last : Option KeptFault)
     → grammar old (used ++ more) last ≡ items_behind items (grammar new more last)

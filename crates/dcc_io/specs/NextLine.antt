@@ -21,8 +21,8 @@ pub record IsOneLine (line : List ℕ) : Type 0 where
   pub good : is_good line ≡ true
   pub one : has_line_feed line ≡ false
 
--- the number of lines that were read after some bytes of line `line`, without the line feed at its
--- end. The number stays `lines` if no byte was read.
+-- the number of lines that were read when some bytes of line `line` were read, but not its line
+-- feed. If no byte of this line was read, the number is still `lines`.
 abbrev pub lines_within : ℕ → ℕ → List ℕ → ℕ
 lines_within lines line [] = lines
 lines_within lines line (byte ∷ front) = line
@@ -77,6 +77,9 @@ FailsInLine old new = FailsBehind IsOneLine old new × (new.fault ≡ Some Read)
 abbrev pub OverflowsInLine : InputState → InputState → Type 0
 OverflowsInLine old new = OverflowsBehind IsOneLine old new × (new.fault ≡ Some TooMuch) × LinesAt old TooMuch new
 
+-- the result is the next line with its number, `None` at the end of the text, or an error. The
+-- error is U3 for an invalid line, U4 if a read failed in the line, and U7 if the limit of bytes
+-- ended in the line.
 abbrev pub AnswersLine : InputState → Result (Option TextLine) KeptFault → InputState → Type 0
 AnswersLine old (Ok (Some line)) new = ReadsLine old line.number line.text.bytes new
 AnswersLine old (Ok None) new = EndsText old new

@@ -29,6 +29,9 @@ pub record EndsWord (old : InputState) (line : ℕ) (so_far : RunWord) (new : In
   pub behind : line ≤ new.place.line
   pub lines : IfSome old.text (λ text. new.lines ≡ line)
 
+-- the result is the next word with the number of its line, or `None` at the end of the text. If a
+-- read failed or the limit of bytes ended before the word was complete, the result is the error U4
+-- or U7.
 abbrev pub AnswersWord : InputState → Result (Option (ℕ × RunWord)) KeptFault → InputState → Type 0
 AnswersWord old (Ok (Some word)) new = EndsWord old word.0 word.1 new
 AnswersWord old (Ok None) new = Passed old [] new × IsAtEnd new.text

@@ -16,8 +16,8 @@ abbrev pub lines_with : ℕ → ℕ → List ℕ → ℕ
 lines_with lines line [] = lines
 lines_with lines line (byte ∷ rest) = line
 
--- the number of lines that were read after all bytes of a text that begins on line `line`. Before
--- the text, `lines` lines were read.
+-- the number of lines that were read when all bytes of a text were read. The text begins on line
+-- `line`, and `lines` lines were read before the text.
 abbrev pub lines_through : ℕ → ℕ → List ℕ → ℕ
 lines_through lines line [] = lines
 lines_through lines line (byte ∷ rest) = lines_through (lines_with lines line rest) (line_behind line byte) rest

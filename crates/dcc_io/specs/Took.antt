@@ -7,8 +7,9 @@ use Rattle.dcc_io.specs.declared.fault.KeptFault.TheVariants.{Number, Line, Read
 use Rattle.dcc_io.specs.Failures.{one_more}
 use Rattle.dcc_io.specs.InputState.{InputState, all_lines, lines_up_to}
 
--- reading one or more bytes in state `new` leads to as many lines as reading `used` and these bytes
--- in state `old`
+-- an input that reads `used` in state `old` goes to state `new`. If one or more bytes follow, the
+-- count of lines after these bytes is the same, whether it is computed from state `new` or from
+-- state `old`.
 abbrev pub CountsLines : InputState → List ℕ → InputState → Type 0
 CountsLines old used new = (next : ℕ) (more : List ℕ) → all_lines new (next ∷ more) ≡ all_lines old (used
     ++ next ∷ more)
@@ -32,8 +33,8 @@ pub record Took (fact : List ℕ → Type 0) (old new : InputState) : Type 0 whe
   pub fault : new.fault ≡ None
   pub failures : new.failures ≡ old.failures
 
--- the value of `said` for the bytes of `text`, if the limit of `input` allows all of them.
--- Otherwise it is the value of `said` for the allowed bytes and the error U7.
+-- the value of `said` for the bytes of `text`, if the limit of `input` allows all of these bytes.
+-- Otherwise the value of `said` for the allowed bytes and the error U7.
 abbrev pub within_limit : {A : Type 0} → (List ℕ → Option KeptFault → A) → InputState → List ℕ → A
 within_limit said input text =
     if nat_le (length text) input.bytes then said text None else said (take (input.bytes - 1) text) (Some TooMuch)

@@ -105,7 +105,8 @@ is_dash byte = byte == 45
 abbrev pub is_mark : List ℕ → Bool
 is_mark word = length word == 3 && list_all is_dash word
 
--- the position `from` becomes `to` after `bytes`. For any bytes that follow `bytes`, the words from
--- `from` on are `words` and then the words of the following bytes from `to` on.
+-- the position `from` becomes `to` after `bytes`. Let any bytes `more` follow `bytes`. The words of
+-- `bytes` and `more` from the position `from` on are `words`, and then the words of `more` from the
+-- position `to` on.
 abbrev pub Passes : TextPlace → List ℕ → List PlacedWord → TextPlace → Type 0
 Passes from bytes words to = (more : List ℕ) → ended_words from (bytes ++ more) ≡ words ++ ended_words to more

@@ -1,4 +1,5 @@
--- The text of the statistics of a list of half-bits, which has one number on each line.
+-- The text of the statistics of a list of half-bits. Each line has a name, and then a number, two
+-- limits or the word `none`.
 use Rattle.std.specs.Prelude.{ℕ, ◌+◌, ◌/◌, ◌%◌, ◌++◌, List, [], ◌∷◌, Option, None, Some, length, sum, map, codes}
 use Rattle.std.specs.Fmt.{decimal}
 use Rattle.std.specs.List.{filter, count_by}

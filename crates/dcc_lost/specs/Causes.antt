@@ -22,8 +22,8 @@ is_off_one us = (nat_le 26 us && nat_lt us 52) || (nat_lt 64 us && nat_le us 76)
 abbrev pub is_off_zero : ℕ → Bool
 is_off_zero us = (nat_le 77 us && nat_lt us 90) || (nat_lt 10000 us && nat_le us 20000)
 
--- the number of some durations, the least and the greatest of them, or `None` if there is no
--- duration
+-- the number of durations in a list, with the least and the greatest duration, or `None` if the
+-- list is empty
 unfoldable pub off_limits : List ℕ → Option OffLimits
 off_limits [] = None
 off_limits (us ∷ durations) =

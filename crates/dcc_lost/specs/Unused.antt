@@ -11,8 +11,8 @@ use Rattle.dcc_wire.specs.Outcomes.{ones_left}
 unfoldable pub last_outcome : List (ℕ × Seen) → Option (ℕ × Seen)
 last_outcome outcomes = fold (λ last outcome. Some outcome) None outcomes
 
--- the number of half-bits at the end of a list of `count` half-bits that no outcome uses, if the
--- list has the given last outcome. The two half-bits of an end bit count as unused.
+-- the number of half-bits at the end of a list that no outcome uses. The list has `count` half-bits
+-- and the given last outcome. The two half-bits of an end bit count as unused.
 unfoldable pub unused_after : ℕ → Option (ℕ × Seen) → ℕ
 unused_after count None = count
 unused_after count (Some (place, outcome)) = count - (place + 1) + ones_left outcome
@@ -37,9 +37,9 @@ unfoldable pub unused_from : List ℕ → List ℕ → List ℕ
 unused_from before [] = []
 unused_from before (us ∷ durations) = unused_at_end before ∷ unused_from (before ++ us ∷ []) durations
 
--- `framer` is the state of a framer after the list `durations`, and no outcome uses the half-bits
--- at the end of the list. `unused` is their number, at most 20. If the last outcome is a refusal,
--- `since` is the number of half-bits after it, at most 255.
+-- `framer` is the state of a framer after the list `durations`. `unused` is the number of half-bits
+-- at the end of the list that no outcome uses, at most 20. If the last outcome is a refusal,
+-- `since` is the number of half-bits after the refusal, at most 255.
 pub record Hears (framer : Rest) (unused : ℕ) (since : Option ℕ) (durations : List ℕ) : Type 0 where
   pub stands : StandsFor framer durations
   pub below : IfSome (last_outcome (seen durations)) (λ outcome. outcome.0 < length durations)

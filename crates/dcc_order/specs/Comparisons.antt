@@ -39,7 +39,7 @@ abbrev pub open_cut : List Packet → Option Packet → Cut
 open_cut block end = cut_then block end (LastBlock [])
 
 -- `verdict` is the verdict on all cut lists that have `left` and `right` as their blocks with
--- number `k`, if the blocks before are alike. The write `write` ends the block `left`, and `other`
+-- number `k`, if all earlier blocks are alike. The write `write` ends the block `left`, and `other`
 -- ends `right`. A block without a write is the last block.
 abbrev pub IsVerdictAtEnds : ℕ → List Packet → Option Packet → List Packet → Option Packet → Verdict → Type 0
 IsVerdictAtEnds k left write right other verdict =

@@ -7,14 +7,15 @@ use Rattle.dcc_packet.specs.declared.packet.Packet.{Packet}
 use Rattle.dcc_packet.specs.SamePacket.{same}
 use Rattle.dcc_packet.specs.Spelling.{spelling}
 
--- the number of a frame with these `bytes`. The first byte is the lowest byte of the number, and a
--- 1 stands above the last byte.
+-- a frame with these `bytes` as one number, whose digits in base 256 are the bytes. The first byte
+-- is the lowest digit, and a digit 1 comes above the last byte. So no two frames have the same
+-- number.
 abbrev pub frame_number : List ℕ → ℕ
 frame_number [] = 1
 frame_number (byte ∷ bytes) = byte + 256 * frame_number bytes
 
--- for each packet, `found` maps the number of its frame to the place of the packet in `members`.
--- The result of `found` is `None` if `members` does not contain the packet.
+-- for each packet, `found` maps the `frame_number` of its frame to the place of the packet in
+-- `members`. The result of `found` is `None` if `members` does not contain the packet.
 abbrev pub IsIndex : (ℕ → Option ℕ) → List Packet → Type 0
 IsIndex found members =
     (p : Packet) → IsFrame (spelling p) → found (frame_number (spelling p)) ≡ position (same p) members

@@ -53,10 +53,13 @@ block_len zero (Block block write rest) = length block
 block_len (suc k) (LastBlock block) = 0
 block_len (suc k) (Block block write rest) = block_len k rest
 
--- the sum of the lengths of block `k` of `left` and block `k` of `right`. `k` is the smaller of the
--- two numbers of writes in `left` and `right`.
+-- the number of packets in block `k` of the cut list `left`, plus the number of packets in block
+-- `k` of the cut list `right`. The number `k` is the number of own writes in the cut list that has
+-- fewer own writes.
 abbrev pub open_blocks_len : Cut → Cut → ℕ
 open_blocks_len left right = let k = min (writes_in left) (writes_in right) in block_len k left + block_len k right
 
+-- the number of packets in the open blocks of both `lists` for decoder `who`. A comparer stores
+-- these packets until the verdict.
 abbrev pub most_held : Who → Lists → ℕ
 most_held who lists = open_blocks_len (cut_for who lists.left) (cut_for who lists.right)

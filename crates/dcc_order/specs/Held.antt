@@ -1,4 +1,5 @@
--- The two blocks that a comparer stores.
+-- The two blocks that a comparer stores: the first block, of the left list, and the second block,
+-- of the right list.
 use Rattle.std.specs.Prelude.{List, []}
 use Rattle.dcc_packet.specs.declared.packet.Packet.{Packet}
 

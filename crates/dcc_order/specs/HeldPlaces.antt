@@ -1,5 +1,6 @@
--- Two blocks that are stored as numbers. The number of a packet is its place in the list of the
--- different packets of the first block.
+-- The two blocks that a comparer stores, as numbers. The first block is the block of the left list,
+-- and the second block is the block of the right list. The number of a packet is its place among
+-- the different packets of the first block.
 use Rattle.std.specs.Prelude.{ℕ, ◌≡◌, ◌≤◌, ◌<◌, List, length, map, take, slice_index_or}
 use Rattle.std.specs.List.{AllByRecursion}
 use Rattle.dcc_packet.specs.declared.packet.Packet.{Packet}

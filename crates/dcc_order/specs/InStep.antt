@@ -77,6 +77,8 @@ FewerRequestsAfterLeft = (who : Who) (left right : List Packet) (c next : Compar
     → IsInStep who left right c → Left ≡ c.wants → IsAt left c.left_given item → BecomesBy c item next
     → requests_bound left right next < requests_bound left right c
 
+-- the number `requests_bound` falls if a comparer in step gets the next packet of the right list,
+-- or the end of this list
 abbrev pub FewerRequestsAfterRight : Type 0
 FewerRequestsAfterRight = (who : Who) (left right : List Packet) (c next : Comparison) (item : Option Packet)
     → IsInStep who left right c → Right ≡ c.wants → IsAt right c.right_given item → BecomesBy c item next

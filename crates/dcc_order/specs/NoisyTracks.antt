@@ -31,7 +31,8 @@ pub record CanBeHeardAfterNoise (noise : List ℕ) (first : SentPacket) (others 
   -- the packets in the noise
   pub before : List Packet
   pub in_noise : ArePackets before noise
-  -- at most one packet, which ends a body that the noise leaves unfinished
+  -- at most one packet: the outcome of a body that begins in the noise and ends after the noise, if
+  -- this outcome is a packet
   pub unfinished : List Packet
   pub at_most_one : length unfinished ≤ 1
   -- the packet `first`, or an empty list if `first` is lost. A packet whose preamble has at least

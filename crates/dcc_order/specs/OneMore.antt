@@ -32,8 +32,8 @@ OneMorePacket = (who : Who) (packets : List Packet) (p : Packet) →
     else cut_for who packets)
 
 -- the first cut list is a prefix of the second cut list: both have the same blocks and writes up to
--- the end of the first one. The last block of the first cut list can be longer in the second one,
--- and more blocks can follow there.
+-- the end of the first cut list. In the second cut list, the last block of the first cut list can
+-- be longer, and more blocks can follow.
 abbrev pub GoesOnAs : Cut → Cut → Type 0
 GoesOnAs (LastBlock block) (LastBlock longer) = (more : List Packet) × (longer ≡ block ++ more)
 GoesOnAs (LastBlock block) (Block longer write rest) = (more : List Packet) × (longer ≡ block ++ more)

@@ -1,6 +1,6 @@
--- How a packet and its rival alternate in a block, as two values: the number of turns, and true if
--- the rival took the last turn. A turn is a sequence of occurrences of one of the two packets with
--- no occurrence of the other packet between them.
+-- How a packet and another packet, its rival, alternate in a block. The alternation has two values:
+-- the number of turns, and true if the rival took the last turn. A turn is a sequence of
+-- occurrences of one of the two packets with no occurrence of the other packet between them.
 use Rattle.std.specs.Prelude.{ℕ, ◌+◌, ◌≡◌, ◌<◌, slice_index_or, ◌||◌, ◌==◌, true, false, List, [], ◌∷◌, Option, Some}
 use Rattle.std.specs.Prelude.{fold, length, if◌then◌else◌}
 use Rattle.dcc_packet.specs.declared.packet.Packet.{Packet}
@@ -39,12 +39,13 @@ with_turn own rival taken number =
 abbrev pub turns_of : ℕ → ℕ → List ℕ → Turns
 turns_of own rival numbers = fold (with_turn own rival) no_turns numbers
 
--- `turns` has an entry without turns for each of `count` rivals
+-- `turns` has `count` elements, one for each rival. Each element is `no_turns`, the alternation
+-- before the first turn.
 pub record Started (turns : List Turns) (count : ℕ) : Type 0 where
   pub each : length turns ≡ count
   pub none : (rival : ℕ) (d : Turns) → rival < length turns → slice_index_or turns rival d ≡ no_turns
 
--- `turns` has an entry for each of `count` rivals: the alternation of packet number `own` and this
+-- `turns` has `count` elements, one for each rival: the alternation of packet number `own` and this
 -- rival in a block, whose packets have the numbers `numbers`
 pub record Counted (turns : List Turns) (own count : ℕ) (numbers : List ℕ) : Type 0 where
   pub each : length turns ≡ count

@@ -5,7 +5,7 @@ use Rattle.dcc_packet.specs.declared.fault.PacketFault.TheVariants.{Short, Long,
 use Rattle.dcc_packet.specs.declared.fault.PacketFault.TheVariants.{BitPlace, SpeedBits, GroupBits, Word, Number}
 use Rattle.dcc_packet.specs.declared.fault.PacketFault.TheVariants.{Frame, State, StateNumber}
 
--- the number of the error code of a packet error, without the letter P
+-- the number in the error code of a packet error, 1 to 14 for P1 to P14
 abbrev pub packet_fault_number : PacketFault → ℕ
 packet_fault_number Short = 1
 packet_fault_number Long = 2

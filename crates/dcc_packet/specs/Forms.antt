@@ -10,14 +10,15 @@ use Rattle.dcc_packet.specs.Words.{Word, is_word}
 use Rattle.dcc_packet.specs.LineWords.{◌>>=◌}
 use Rattle.dcc_packet.specs.Fields.{FieldOf, IsToken, is_keyword, no_more_words}
 
--- a form of lines whose values have type `A` and whose field has values of type `B`
+-- a form. A line of this form means a value of type `A`. The field of the form has values of type
+-- `B`.
 pub record FormOf (A B : Type 0) : Type 0 where
   -- the word before the field
   pub keyword : Word
   -- the value that a line of this form means if its field has a given value
   pub says : B → A
-  -- the field value of the line that means a given value, or `None` if no line of this form means
-  -- the given value
+  -- the value of the field in the line that means a given value, or `None` if no line of this form
+  -- means the given value
   pub said : A → Option B
 
 -- a form together with its field, which is a row of a table of forms

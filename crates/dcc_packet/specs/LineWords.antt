@@ -52,8 +52,8 @@ small_number word = do
   n ← number word
   if nat_le n 255 then Ok n else Err faults.Number
 
--- the address that a word TO stands for: `all`, or `s` (code 115) or `l` (code 108) followed by a
--- number
+-- the address that a word TO means: `all`, or `s` (code 115) or `l` (code 108) followed by a
+-- number. The result is an error if the word means no address.
 abbrev pub address : Word → Result Address PacketFault
 address word =
     if is_word word (codes "all") then Ok Broadcast
@@ -68,15 +68,16 @@ direction word =
     else if is_word word (codes "r") then Ok false
     else Err faults.Word
 
--- the five speed bits of a word BITS of the form `speed28`
+-- the five speed bits that a word BITS of the form `speed28` means, or the error of the word
 abbrev pub speed28_bits : Word → Result SpeedBits28 PacketFault
 speed28_bits word = small_number word >>= speed28_of
 
--- the seven speed bits of a word BITS of the form `speed128`
+-- the seven speed bits that a word BITS of the form `speed128` means, or the error of the word
 abbrev pub speed128_bits : Word → Result SpeedBits128 PacketFault
 speed128_bits word = small_number word >>= speed128_of
 
--- the function group of a word GROUP, which is the number of the first function of the group
+-- the function group that a word GROUP means, or the error of the word. The word is 0 for F0 to F4,
+-- otherwise the number of the first function of the group.
 abbrev pub group : Word → Result Group PacketFault
 group word =
     if is_word word (codes "0") then Ok F0
@@ -91,19 +92,19 @@ group word =
     else if is_word word (codes "61") then Ok F61
     else Err faults.Word
 
--- the bits of function group `g` in a word BITS
+-- the bits of function group `g` that a word BITS means, or the error of the word
 abbrev pub group_bits : Group → Word → Result GroupBits PacketFault
 group_bits g word = small_number word >>= functions_of g
 
--- the number of a binary state in a word NUMBER
+-- the number of a binary state that a word NUMBER means, or the error of the word
 abbrev pub state_number : Word → Result StateNumber PacketFault
 state_number word = small_number word >>= state_of
 
--- the number of a CV in a word CV
+-- the number of a CV that a word CV means, or the error of the word
 abbrev pub cv_number : Word → Result CvNumber PacketFault
 cv_number word = number word >>= cv_of
 
--- the place of a bit in a word PLACE
+-- the place of a bit that a word PLACE means, or the error of the word
 abbrev pub bit_place : Word → Result BitPlace PacketFault
 bit_place word = small_number word >>= place_of
 
@@ -115,11 +116,11 @@ bit_state word =
     else if is_word word (codes "0") then Ok false
     else Err faults.Word
 
--- the number of an accessory decoder in a word BOARD
+-- the number of an accessory decoder that a word BOARD means, or the error of the word
 abbrev pub board_number : Word → Result Board PacketFault
 board_number word = number word >>= board_of
 
--- the number of an output in a word OUTPUT
+-- the number of an output that a word OUTPUT means, or the error of the word
 abbrev pub output_number : Word → Result Output PacketFault
 output_number word = small_number word >>= output_of
 
@@ -130,7 +131,7 @@ switch word =
     else if is_word word (codes "off") then Ok false
     else Err faults.Word
 
--- the address of a signal in a word ADDRESS
+-- the address of a signal that a word ADDRESS means, or the error of the word
 abbrev pub signal_number : Word → Result SignalAddress PacketFault
 signal_number word = number word >>= signal_of
 

@@ -16,7 +16,7 @@ board_state_content s =
       aspects = λ n. slice_index s.aspects n;
     }
 
--- the number of an accessory decoder in state `s`, as a `Who`
+-- the identity of an accessory decoder in state `s`, which is its number
 abbrev pub board_who : BoardState → Who
 board_who s = BoardWho s.board
 

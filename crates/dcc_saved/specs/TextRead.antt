@@ -38,8 +38,8 @@ answer_in read input text = within_limit (answer_at read input) input text
 abbrev pub answer_before_failure : {A : Type 0} → Reader A → InputState → List ℕ → Result A KeptFault
 answer_before_failure read input used = answer_at read input used (Some Read)
 
--- for any bytes that follow `used`, the result of the reader `read` for all bytes is the result of
--- the reader `rest_read` for the bytes that follow
+-- let any bytes `more` follow `used`. The result of the reader `read` for `used` and `more` is the
+-- result of the reader `rest_read` for `more`.
 pub record ContinuesAs {A : Type 0} (read : Reader A) (old : InputState) (rest_read : Reader A) (new : InputState)
     (used : List ℕ) : Type 0 where
   pub goes_on : (more : List ℕ) → read (at old (used ++ more)) ≡ rest_read (at new more)

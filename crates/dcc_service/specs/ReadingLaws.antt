@@ -71,12 +71,12 @@ pub record IsReadingUnderWay (cv : CvNumber) (cvs now : List ℕ) (so_far : CvAn
   pub kept : now ≡ cvs
   pub first : AreFirstOf so_far.answers (true_answers (cv_in cvs cv.number))
 
--- before the first question, a reading is under way
+-- before the first question, a reading is under way (`IsReadingUnderWay`)
 abbrev pub ReadingBegins : Type 0
 ReadingBegins = (cv : CvNumber) (cvs : List ℕ) (so_far : CvAnswers) → so_far ≡ record { cv = cv; answers = [] }
     → IsReadingUnderWay cv cvs cvs so_far
 
--- after each question except the last, a reading is still under way
+-- after each question except the last, a reading is still under way (`IsReadingUnderWay`)
 abbrev pub ReadingGoesOn : Type 0
 ReadingGoesOn = (cv : CvNumber) (cvs now after : List ℕ) (so_far next : CvAnswers) (question : ServicePacket)
     (answer : Bool)

@@ -32,8 +32,8 @@ LeaveTheSameButPending who left right =
     (start : RegisterMap) (register : Register) → register ≢ registers.Pending
     → result who start left register ≡ result who start right register
 
--- let no copy of a waiting command be sent so far. Then the returned packets lead each decoder to
--- the same registers as the commands that have left the queue, except Pending.
+-- suppose that no copy of a command in the queue was sent so far. Then the returned packets lead
+-- each decoder to the same registers as the commands that have left the queue, except Pending.
 abbrev pub RefreshIsTransparent : Type 0
 RefreshIsTransparent =
     (s : Sending) (done packets : List Packet) → StationRepresents s (done ++ s.waiting) packets → s.sent ≡ 0 →
@@ -53,7 +53,7 @@ EntriesAreHandedOutInTurn =
     (s new : Sending) (packets : List Packet) → s.waiting ≡ [] → length packets ≡ length s.entries
     → NextAll s packets new → (packets ≡ s.entries) × (new ≡ s)
 
--- the commands in the queue are the last commands of the accepted commands
+-- the commands in the queue are the last of the accepted commands
 abbrev pub WaitingIsSuffix : Type 0
 WaitingIsSuffix =
     (s : Sending) (commands packets : List Packet) → StationRepresents s commands packets

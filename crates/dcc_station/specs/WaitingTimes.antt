@@ -90,9 +90,9 @@ SentPacketsTakeFewMicroseconds =
     (timing : Timing) (packets : List Packet) → AllByRecursion BytesFit packets
     → sum (sent_all (sent_with timing packets)) ≤ length packets * longest_time timing
 
--- a station accepts the command `p`, and `first` are the packets before the first copy of `p`.
--- Together, these packets and this copy have at most as many half-bits as the following number of
--- longest packets: `repeats + 1` for each command that waited, and one more.
+-- a station accepts the command `p`, and `first` are the packets before the first copy of `p`. Let
+-- n be `repeats + 1` times the number of commands that waited, plus one. The packets `first` and
+-- this copy have at most as many half-bits as n packets of 6 bytes.
 abbrev pub CommandsAreSentInTime : Type 0
 CommandsAreSentInTime =
     (s new : Sending) (commands returned packets : List Packet) (p : Packet) (timing : Timing)
@@ -102,9 +102,9 @@ CommandsAreSentInTime =
     × (length (sent_all (sent_with timing (first ++ p ∷ [])))
     ≤ (length s.waiting * (s.repeats + 1) + 1) * (2 * (timing.preamble + 55)))
 
--- a station accepts the command `p`, and `first` are the packets before the first copy of `p`.
--- Together, these packets and this copy take at most `longest_time` microseconds for each of the
--- following packets: `repeats + 1` for each command that waited, and one more.
+-- a station accepts the command `p`, and `first` are the packets before the first copy of `p`. Let
+-- n be `repeats + 1` times the number of commands that waited, plus one. The packets `first` and
+-- this copy take at most n times `longest_time` microseconds.
 abbrev pub CommandsAreSentInMicroseconds : Type 0
 CommandsAreSentInMicroseconds =
     (s new : Sending) (commands returned packets : List Packet) (p : Packet) (timing : Timing)

@@ -55,7 +55,8 @@ difference bit = max bit.0 bit.1 - min bit.0 bit.1
 abbrev pub bit_duration : ℕ × ℕ → ℕ
 bit_duration bit = bit.0 + bit.1
 
--- `tallies` are the tallies of `bits`: of the differences in ones, and of the durations of zeros
+-- `tallies` are two tallies over `bits`: for each bit that is a one, the difference of its
+-- half-bits, and for each bit that is a zero, its duration
 pub record AreBits (tallies : Bits) (bits : List (ℕ × ℕ)) : Type 0 where
   pub differences : IsTally tallies.differences (map difference (filter is_one_pair bits))
   pub sums : IsTally tallies.sums (map bit_duration (filter is_zero_pair bits))

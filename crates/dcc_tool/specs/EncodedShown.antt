@@ -30,16 +30,17 @@ halves_to_send how frames = sent_all (to_send how frames)
 abbrev pub closed_encoding : Encode → List (List ℕ) → List ℕ
 closed_encoding how frames = encoding how frames ++ codes "\n"
 
--- the encoding `how` has half-bits, and `input` is not in a comment. The limits of `input` allow
--- the half-bits of `frames`, the bytes of `text`, and the line feed after the text.
+-- `how` is an encoding as half-bits and not as hexadecimal digits, and `input` is not in a comment.
+-- The limits of `input` allow the half-bits of `frames`, the bytes of `text`, and the line feed
+-- after the text.
 pub record TakesText (how : Encode) (frames : List (List ℕ)) (text : List ℕ) (input : InputState) : Type 0 where
   pub in_halves : how.hex ≡ false
   pub in_no_comment : input.place.in_comment ≡ false
   pub halves : length (halves_to_send how frames) ≤ input.halves
   pub bytes : length text < input.bytes
 
--- the encoding of `frames` has half-bits, and the input can read it: the input is not in a comment,
--- and its limits allow the encoding
+-- the encoding of `frames` consists of half-bits, and the input can read this encoding: the input
+-- is not in a comment, and its limits allow the encoding
 abbrev pub TakesEncoding : Encode → List (List ℕ) → InputState → Type 0
 TakesEncoding how frames = TakesText how frames (encoding how frames)
 

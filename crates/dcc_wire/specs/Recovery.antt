@@ -73,8 +73,9 @@ LongPreamblesLoseNothing =
     ≡ seen noise ++ at_open_end (length noise) (open_end noise) ++ at_last_halves (length noise) (first ∷ others)
 
 -- Three copies of a packet are sent after the packets `earlier`, and noise replaces one copy:
--- `before` copies come before the noise, and `after` copies after it. If a copy comes before the
--- noise, the first copy is seen at its last half-bit. Otherwise the last copy is seen there.
+-- `before` copies come before the noise, and `after` copies come after it. If a copy comes before
+-- the noise, the first copy is seen at its last half-bit. Otherwise the last copy is seen at its
+-- last half-bit.
 abbrev pub OneOfThreeCopiesIsSeen : Type 0
 OneOfThreeCopiesIsSeen =
     (earlier : List Sent) (copy : Sent) (before after : ℕ) (noise : List ℕ)

@@ -39,7 +39,7 @@ at_last_halves place (packet ∷ packets) =
     let next = place + length (sent packet.bytes packet.timing) in
     (next - 1, Packet packet.bytes) ∷ at_last_halves next packets
 
--- the bytes of each of the `packets` are a frame
+-- each of the `packets` has the bytes of a frame
 unfoldable pub AllFrames : List Sent → Type 0
 AllFrames [] = Unit {0}
 AllFrames (packet ∷ packets) = IsFrame packet.bytes × AllFrames packets

@@ -40,8 +40,8 @@ pub record HoldsAnswers (how : Encode) (s : sending.Sending) (items : List Asked
   pub answers : AnswersAll how s items bytes new
   pub holds : Holds before after (held ++ bytes) left
 
--- a prefix of the bytes `held` and of the answers of a station in state `s` was written. The
--- answers belong to the first requests of `items`.
+-- the bytes `held`, and then the answers of a station in state `s` to the first requests of
+-- `items`, form one list of bytes. A prefix of this list was written.
 pub record HeldFront (how : Encode) (s : sending.Sending) (items : List Asked) (before after : WriterState)
     (held : List ℕ) : Type 0 where
   pub first : List Asked

@@ -15,14 +15,15 @@ use Rattle.dcc_regs.specs.Writes.{writes_mode}
 use Rattle.dcc_station.specs.Commands.{is_refreshed}
 
 -- true if a command keeps the direction `forward` of an entry: the command sets this direction, or
--- no direction
+-- the first argument is `None` and the command sets no direction
 abbrev pub way_kept : Option Bool → Bool → Bool
 way_kept None forward = true
 way_kept (Some true) forward = forward
 way_kept (Some false) forward = not forward
 
--- true if an entry stays after a command with the speed `set`, in the bits of 128 steps, and the
--- direction `way`. An entry with a speed stays only if it already has this speed and direction.
+-- true if an entry stays after a command that sets the speed `set` and the direction `way`. The
+-- number `set` is the speed in the form of the bits of an instruction with 128 steps. An entry that
+-- sets the speed stays only if it sets this speed and this direction.
 abbrev pub speed_kept : ℕ → Option Bool → What → Bool
 speed_kept set way (Speed28 forward bits) = nat_lt set 2 && ((bits.bits / 2 == set) && way_kept way forward)
 speed_kept set way (Speed128 forward bits) = (bits.bits == set) && way_kept way forward
