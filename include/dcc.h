@@ -12,8 +12,8 @@
  * - A dcc_framer, a dcc_sender and a dcc_station are opaque: do not write to their fields. If all bytes are zero, a
  *   dcc_framer is new, a dcc_sender has no half-bit left, and a dcc_station accepts no command.
  * - A dcc_sender is all zeros before its first dcc_sender_start, and a dcc_station before its first dcc_station_new.
- * - The fields of all other objects may be read and changed. A function returns 13 if the values are impossible for
- *   a decoder or a reading. The fields of a dcc_timing may have any values. A bool is 0 or 1.
+ * - The fields of all other objects may be read and changed. A function returns 13 if the fields that it reads are
+ *   impossible for a decoder or a reading. The fields of a dcc_timing may have any values. A bool is 0 or 1.
  * - Pointers are not null, are aligned, and point to as many items as the function says. A pointer is not null even
  *   if a length is 0.
  * - The objects and arrays of one call do not overlap.
@@ -65,8 +65,8 @@ enum { DCC_C1_SIZES = 1, DCC_C2_MEMORY, DCC_C3_NO_COMMAND, DCC_C4_QUEUE_FULL }; 
 enum { DCC_MAIN_TRACK = 14, DCC_PROGRAMMING_TRACK = 20 };
 
 /* The bytes of a frame with the error byte last, and then zeros. The field len is 0 if there is no frame, else 3 to 6.
- * The functions write no other len. If the pending frame of a decoder has another len, the functions of the decoder
- * return 13. */
+ * The functions write no other len. If the pending frame of a decoder has another len, the _apply and _cv functions of
+ * the decoder return 13. */
 typedef struct {
     uint8_t len;
     uint8_t bytes[6];
@@ -197,8 +197,9 @@ uint16_t dcc_sender_half(dcc_sender *sender);
 
 /* ---- decoders ---- */
 
-/* The _apply, _hears and _cv functions return 13 (P13) and write nothing if no decoder can have the fields of the
- * struct. */
+/* The _apply and _cv functions return 13 (P13) and write nothing if the fields of the struct are not a possible state of
+ * a decoder. The _hears functions read only the address or the number of the decoder. They return 13 and write nothing
+ * if no decoder can have this address or number. */
 
 /* A locomotive decoder. */
 typedef struct {

@@ -319,7 +319,7 @@ static void a_loco_is_left_where_it_is_refused(void) {
     HOLDS(loco.step == 29);
 }
 
-/* A pending frame of another length than a frame has is one that no decoder has, whatever its bytes are. */
+/* No decoder can have a pending frame whose length is not 0 or 3 to 6, whatever its bytes are. */
 static void a_pending_frame_has_3_to_6_bytes(void) {
     static const uint8_t lens[] = {1, 2, 7, 8, 128, 255}, reset[3] = {0};
     static dcc_loco loco;

@@ -64,8 +64,8 @@ fn new(number: u16) -> Result<BoardState, PacketFault>
 }
 
 /// Applies the packet of the frame `frame`. The decoder ignores a packet that it does not hear.
-/// Returns 0 on success, 1 (L1) or 2 (L2) if `frame` is no frame, and 13 (P13) if no decoder has
-/// the fields of `board`. If the result is not 0, nothing changes.
+/// Returns 0 on success, 1 (L1) or 2 (L2) if `frame` is no frame, and 13 (P13) if the fields of
+/// `board` are not a possible state of a decoder. If the result is not 0, nothing changes.
 #[unsafe(no_mangle)]
 pub extern "C" fn dcc_board_apply(board: &mut DccBoard, frame: &[u8]) -> u8
     ensures no_frame { frame_answer frame.now ≢ 0 → result ≡ frame_answer frame.now }
@@ -130,7 +130,7 @@ fn own_board(board: &DccBoard) -> Result<Board, PacketFault>
 }
 
 /// Returns the state of the decoder with the fields of `board` after the packet `packet`. Returns
-/// `None` if no decoder has the fields of `board`.
+/// `None` if the fields of `board` are not a possible state of a decoder.
 fn after(board: &DccBoard, packet: &Packet) -> Option<BoardState>
     ensures decoder { IfSome result
         (λ _. (before : BoardState) × (is_single before ≡ true) × (board.now ≡ board_numbers before)) }

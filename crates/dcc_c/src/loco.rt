@@ -47,8 +47,8 @@ pub extern "C" fn dcc_loco_power_up(loco: &mut DccLoco)
 }
 
 /// Applies the packet of the frame `frame`. The decoder ignores a packet that it does not hear.
-/// Returns 0 on success, 1 (L1) or 2 (L2) if `frame` is no frame, and 13 (P13) if no decoder has
-/// the fields of `loco`. If the result is not 0, nothing changes.
+/// Returns 0 on success, 1 (L1) or 2 (L2) if `frame` is no frame, and 13 (P13) if the fields of
+/// `loco` are not a possible state of a decoder. If the result is not 0, nothing changes.
 #[unsafe(no_mangle)]
 pub extern "C" fn dcc_loco_apply(loco: &mut DccLoco, frame: &[u8]) -> u8
     ensures no_frame { frame_answer frame.now ≢ 0 → result ≡ frame_answer frame.now }
@@ -74,9 +74,9 @@ pub extern "C" fn dcc_loco_apply(loco: &mut DccLoco, frame: &[u8]) -> u8
 }
 
 /// Writes true to `heard` if the decoder hears the packet of the frame `frame`, otherwise false.
-/// Returns 0 on success, 1 (L1) or 2 (L2) if `frame` is no frame, and 13 (P13) if no decoder has
-/// the address in `loco`. If the result is not 0, nothing is written. The function reads only the
-/// address fields of `loco`.
+/// Returns 0 on success, 1 (L1) or 2 (L2) if `frame` is no frame, and 13 (P13) if the address
+/// fields of `loco` do not form a possible address. If the result is not 0, nothing is written. The
+/// function reads only the address fields of `loco`.
 #[unsafe(no_mangle)]
 pub extern "C" fn dcc_loco_hears(loco: &DccLoco, frame: &[u8], heard: &mut bool) -> u8
     ensures no_frame { frame_answer frame.now ≢ 0 → result ≡ frame_answer frame.now }
@@ -115,7 +115,7 @@ pub(crate) fn registers_hear(registers: &DccLocoRegisters, frame: &[u8], heard: 
 }
 
 /// Applies the packet of a frame to the decoder with the fields of `loco`. Returns false, and
-/// changes nothing, if no decoder has the fields of `loco`.
+/// changes nothing, if the fields of `loco` are not a possible state of a decoder.
 fn apply(loco: &mut DccLoco, frame: &Frame) -> bool
     ensures decoder { result ≡ true → (before : LocoState) × (is_state before ≡ true)
         × (loco.old ≡ loco_numbers before) }

@@ -151,8 +151,8 @@ pub(crate) fn no_registers() -> LocoRegisters
     }
 }
 
-/// Reads the registers from the fields. Returns false if no decoder has the fields of `numbers`. If
-/// the result is false, the registers can have any value.
+/// Reads the registers from the fields. Returns false if the fields of `numbers` are not a possible
+/// state of a decoder. If the result is false, the registers can have any value.
 // writes the registers in place, since each copy would take space on the stack
 #[inline(always)]
 pub(crate) fn take_up(numbers: &DccLocoRegisters, registers: &mut LocoRegisters) -> bool

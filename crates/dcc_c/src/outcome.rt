@@ -11,7 +11,8 @@ use dcc_wire::{Fault, Seen};
 #[repr(C)]
 #[derive(Clone, Copy, Drop)]
 pub struct DccOutcome {
-    /// The number of the last half-bit of the outcome, counted from 1 in the pushed run.
+    /// The number of the last half-bit of the outcome in the run that `dcc_push_run` takes, counted
+    /// from 1. All other functions write 1.
     pub at: u32,
     /// The number of a refusal, 1 to 5 for H1 to H5, or 0 for a packet.
     pub refusal: u8,

@@ -30,9 +30,10 @@ pub struct DccPacket {
     pub forward: bool,
     /// The speed bits, for kinds 2 and 3, or the function bits, for kind 4.
     pub bits: u8,
-    /// The first function of the function group, for kind 4: 0, 5, 9, 13, 21, 29, 37, 45, 53 or 61.
+    /// The function group, for kind 4: 0 for F1 to F4 and F0, otherwise the first function of the
+    /// group, 5, 9, 13, 21, 29, 37, 45, 53 or 61.
     pub group: u8,
-    /// The number of the binary state, for kind 5. Number 0 stands for all states.
+    /// The number of the binary state, for kind 5. The number 0 stands for all binary states.
     pub state: u8,
     /// True if the binary state (kind 5) or the output (kind 10) is switched on.
     pub on: bool,
@@ -212,7 +213,8 @@ pub(crate) fn address_number(address: &Address) -> u16
     }
 }
 
-/// Returns the number of the first function of a group.
+/// Returns the number of a function group: 0 for F1 to F4 and F0, otherwise the number of the first
+/// function of the group.
 fn group_number(group: Group) -> u8
     ensures { result ≡ group_number group }
 {

@@ -45,9 +45,10 @@ pub extern "C" fn dcc_reader_new(reader: &mut DccReader, cv: u16) -> u8
     }
 }
 
-/// Writes the frame of the next question to `question`. Returns 0 on success, and 13 (P13) if no
-/// reading has the fields of `reader`. If the result is not 0, nothing is written. The caller sends
-/// three resets, `00 00 00`, and then the frame in `question` five times (NMRA S-9.2.3).
+/// Writes the frame of the next question to `question`. Returns 0 on success, and 13 (P13) if the
+/// fields of `reader` are not those of a reading. If the result is not 0, nothing is written. The
+/// caller sends three resets, `00 00 00`, and then the frame in `question` five times (NMRA
+/// S-9.2.3).
 #[unsafe(no_mangle)]
 pub extern "C" fn dcc_reader_question(reader: &DccReader, question: &mut DccFrame) -> u8
     ensures asks { (so_far : CvAnswers) → IsReading reader.now so_far →
@@ -67,10 +68,10 @@ pub extern "C" fn dcc_reader_question(reader: &DccReader, question: &mut DccFram
 }
 
 /// Applies the answer to the question. The parameter `yes` is true if the decoder acknowledged one
-/// of the frames. Returns 0 if a question is left. Returns 1 if the reading ended with a value, and
-/// writes this value to `value`. Returns 2 (S1) if the decoder did not acknowledge the last
-/// question, so that the value is unknown. Returns 13 (P13) if no reading has the fields of
-/// `reader`. The reading changes only if the result is 0.
+/// of the eight frames of the question. Returns 0 if a question is left. Returns 1 if the reading
+/// ended with a value, and writes this value to `value`. Returns 2 (S1) if the decoder did not
+/// acknowledge the last question, so that the value is unknown. Returns 13 (P13) if the fields of
+/// `reader` are not those of a reading. The reading changes only if the result is 0.
 #[unsafe(no_mangle)]
 pub extern "C" fn dcc_reader_answer(reader: &mut DccReader, yes: bool, value: &mut u8) -> u8
     ensures comes { (so_far : CvAnswers) → IsReading reader.old so_far →
@@ -108,8 +109,8 @@ fn numbers(reader: &CvReader) -> DccReader
     }
 }
 
-/// Returns the reading with the fields of the C struct `reader`. Returns `None` if no reading has
-/// these fields.
+/// Returns the reading with the fields of the C struct `reader`. Returns `None` if these fields are
+/// not those of a reading.
 fn taken_up(reader: &DccReader) -> Option<CvReader>
     ensures found { (so_far : CvAnswers) → IsReading reader.now so_far → result ≡ Some so_far }
     ensures reading { IfSome result (IsReading reader.now) }

@@ -56,8 +56,8 @@ pub extern "C" fn dcc_service_power_up(service: &mut DccService)
 
 /// Applies the frame `frame`. The function writes true to `acknowledged` if the decoder
 /// acknowledges the frame, otherwise false. Returns 0 on success, 1 (L1) or 2 (L2) if `frame` is no
-/// frame, and 13 (P13) if no decoder has the fields of `service`. If the result is not 0, nothing
-/// changes.
+/// frame, and 13 (P13) if the fields of `service` are not a possible state of a decoder. If the
+/// result is not 0, nothing changes.
 #[unsafe(no_mangle)]
 pub extern "C" fn dcc_service_apply(
     service: &mut DccService,
@@ -104,7 +104,7 @@ fn pending_bytes(pending: &Option<ServicePacket>) -> DccFrame
 }
 
 /// Returns the state of the decoder with the fields of `service`, without the CVs. Returns `None`
-/// if no decoder has the fields of `service`.
+/// if the fields of `service` are not a possible state of a decoder.
 pub(crate) fn progress_of(service: &DccSmallService) -> Option<ServiceProgress>
     ensures found { (state : ServiceState) → service.now ≡ small_service_numbers state
         → result ≡ Some (record { in_service = state.in_service; pending = state.pending }) }

@@ -52,8 +52,8 @@ pub extern "C" fn dcc_small_loco_new(loco: &mut DccSmallLoco, cv1: u8, cv17: u8,
 
 /// Writes to `cv` the number of the CV that `dcc_small_loco_apply` accesses for the frame `frame`,
 /// or 0 if that function accesses no CV. Returns 0 on success, 1 (L1) or 2 (L2) if `frame` is no
-/// frame, and 13 (P13) if no decoder has the fields of `loco`. If the result is not 0, nothing is
-/// written.
+/// frame, and 13 (P13) if the fields of `loco` are not a possible state of a decoder. If the result
+/// is not 0, nothing is written.
 #[unsafe(no_mangle)]
 pub extern "C" fn dcc_small_loco_cv(loco: &DccSmallLoco, frame: &[u8], cv: &mut u16) -> u8
     ensures no_frame { frame_answer frame.now ≢ 0 → result ≡ frame_answer frame.now }
@@ -79,8 +79,8 @@ pub extern "C" fn dcc_small_loco_cv(loco: &DccSmallLoco, frame: &[u8], cv: &mut 
 /// this frame, `value` must be the value of this CV. The function writes the new value of the CV to
 /// `value`. The function writes true to `changed` if the new value differs from the value before,
 /// otherwise false. The decoder ignores a packet that it does not hear. Returns 0 on success, 1
-/// (L1) or 2 (L2) if `frame` is no frame, and 13 (P13) if no decoder has the fields of `loco`. If
-/// the result is not 0, nothing changes.
+/// (L1) or 2 (L2) if `frame` is no frame, and 13 (P13) if the fields of `loco` are not a possible
+/// state of a decoder. If the result is not 0, nothing changes.
 #[unsafe(no_mangle)]
 pub extern "C" fn dcc_small_loco_apply(
     loco: &mut DccSmallLoco,
@@ -115,9 +115,9 @@ pub extern "C" fn dcc_small_loco_apply(
 }
 
 /// Writes true to `heard` if the decoder hears the packet of the frame `frame`, otherwise false.
-/// Returns 0 on success, 1 (L1) or 2 (L2) if `frame` is no frame, and 13 (P13) if no decoder has
-/// the address in `loco`. If the result is not 0, nothing is written. The function reads only the
-/// address fields of `loco`.
+/// Returns 0 on success, 1 (L1) or 2 (L2) if `frame` is no frame, and 13 (P13) if the address
+/// fields of `loco` do not form a possible address. If the result is not 0, nothing is written. The
+/// function reads only the address fields of `loco`.
 #[unsafe(no_mangle)]
 pub extern "C" fn dcc_small_loco_hears(loco: &DccSmallLoco, frame: &[u8], heard: &mut bool) -> u8
     ensures no_frame { frame_answer frame.now ≢ 0 → result ≡ frame_answer frame.now }
@@ -131,8 +131,8 @@ pub extern "C" fn dcc_small_loco_hears(loco: &DccSmallLoco, frame: &[u8], heard:
     registers_hear(&loco.registers, frame, heard)
 }
 
-/// Reads the registers from the fields. Returns false if no decoder has the fields of `loco`. If
-/// the result is false, the registers can have any value.
+/// Reads the registers from the fields. Returns false if the fields of `loco` are not a possible
+/// state of a decoder. If the result is false, the registers can have any value.
 // not inlined, so that the archive contains the code once for both functions
 #[inline(never)]
 fn take_up_small(loco: &DccSmallLoco, registers: &mut LocoRegisters) -> bool
@@ -150,7 +150,7 @@ fn byte_is_small(value: u8)
 {}
 
 /// Returns the number of the CV that the decoder accesses for the frame, or 0 for no CV. Returns
-/// `None` if no decoder has the fields of `loco`.
+/// `None` if the fields of `loco` are not a possible state of a decoder.
 fn accessed_cv(loco: &DccSmallLoco, frame: &Frame) -> Option<u16>
     ensures tells { (state : LocoState) → IsSmallLoco loco.now state →
         (packet : Packet) × (spelling packet ≡ frame.now) × (result ≡ Some (cv_or_0 (loco_cv state packet))) }
@@ -174,7 +174,7 @@ pub(crate) fn number_of(cv: &Option<CvNumber>) -> u16
 }
 
 /// Applies the packet of a frame to the decoder with the fields of `loco`. Returns false, and
-/// changes nothing, if no decoder has the fields of `loco`.
+/// changes nothing, if the fields of `loco` are not a possible state of a decoder.
 fn apply(loco: &mut DccSmallLoco, value: &mut u8, frame: &Frame) -> bool
     ensures decoder { result ≡ true → (before : LocoState) × IsSmallLoco loco.old before }
     ensures applies { (before : LocoState) → IsSmallLoco loco.old before →

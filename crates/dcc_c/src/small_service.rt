@@ -26,8 +26,8 @@ pub extern "C" fn dcc_small_service_new(service: &mut DccSmallService)
 
 /// Writes to `cv` the number of the CV that `dcc_small_service_apply` accesses for the frame
 /// `frame`, or 0 if that function accesses no CV. Returns 0 on success, 1 (L1) or 2 (L2) if `frame`
-/// is no frame, and 13 (P13) if no decoder has the fields of `service`. If the result is not 0,
-/// nothing is written.
+/// is no frame, and 13 (P13) if the fields of `service` are not a possible state of a decoder. If
+/// the result is not 0, nothing is written.
 #[unsafe(no_mangle)]
 pub extern "C" fn dcc_small_service_cv(service: &DccSmallService, frame: &[u8], cv: &mut u16) -> u8
     ensures no_frame { frame_answer frame.now ≢ 0 → result ≡ frame_answer frame.now }
@@ -54,7 +54,8 @@ pub extern "C" fn dcc_small_service_cv(service: &DccSmallService, frame: &[u8], 
 /// The function writes true to `changed` if the new value differs from the value before, otherwise
 /// false. The function writes true to `acknowledged` if the decoder acknowledges the frame,
 /// otherwise false. Returns 0 on success, 1 (L1) or 2 (L2) if `frame` is no frame, and 13 (P13) if
-/// no decoder has the fields of `service`. If the result is not 0, nothing changes.
+/// the fields of `service` are not a possible state of a decoder. If the result is not 0, nothing
+/// changes.
 #[unsafe(no_mangle)]
 pub extern "C" fn dcc_small_service_apply(
     service: &mut DccSmallService,

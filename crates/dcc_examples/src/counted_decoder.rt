@@ -37,9 +37,9 @@ impl<D: Decoder> Decoder for CountedDecoder<D> {
     }
 }
 
-/// Lets a counted decoder and a decoder of another type, each in a box, hear one half-bit of `us`
-/// microseconds. Returns the outcome of the framer, which is the outcome of the list with only this
-/// half-bit.
+/// Lets a fleet hear one half-bit of `us` microseconds. The fleet has a counted decoder and a
+/// decoder of another type, each in a `Box`. Returns the outcome of the framer, which is the
+/// outcome of the list with only this half-bit.
 pub fn hear_in_boxes(alloc: Global, cvs: &[u8; 1024], us: u16) -> Result<Seen, AllocError>
     ensures { IfOk result (λ shown. seen (us ∷ []) ≡ report_at 0 shown) }
 {

@@ -11,8 +11,8 @@ use std::alloc::Global;
 use std::io;
 
 /// Returns the half-bits of a track without the half-bits with the numbers `from` to `to - 1`. If
-/// the missing half-bits belong to the first packet on the track, a framer sees each packet after
-/// the second packet at its last half-bit.
+/// the missing half-bits belong to the first packet on the track, a framer sees the third packet
+/// and all later packets. The framer sees each of these packets at the last half-bit of the packet.
 pub fn with_gap(alloc: Global, track: &[u16], from: usize, to: usize) -> io::Result<Vec<u16>>
     requires { (from ≤ to) × (to ≤ length track.now) }
     ensures { IfOk result (λ heard. (packet next : Sent) (others : List Sent) → AllFrames (next ∷ others)

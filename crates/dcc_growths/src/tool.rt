@@ -79,8 +79,8 @@ pub fn fleet(alloc: Global) -> Option<bool> {
 const LOCO_AFTER: &[u8] =
     b"dcc-decoders 2\nloco s3\nspeed 28 1 f\non\nstates\npending none\ncv 1 3\ncv 29 2\nend\n";
 
-/// Creates a fleet of one decoder in a box, which hears a capture. After the capture, the decoder
-/// text of the fleet is written. Only the creation of the box allocates.
+/// Creates a fleet of one decoder in a `Box`, lets this fleet hear a capture, and writes the
+/// decoder text of the fleet. Only the creation of the `Box` allocates.
 pub fn made_before(alloc: Global) -> Option<bool> {
     let mut cvs = [0; 1024];
     cvs[0] = 3;

@@ -9,8 +9,8 @@ use dcc_capture::next_run;
 use dcc_io::{Input, KeptFault, Sink, Source, ToolFault, write_all};
 use dcc_timing::Timings;
 
-/// Writes the statistics of a capture, with one number on each line. The lines also have the limits
-/// of NMRA S-9.1 for half-bits.
+/// Writes the statistics of a capture. Each line has a name, and then a number, two limits or the
+/// word `none`. The limits are those of NMRA S-9.1 for a station and for a decoder.
 ///
 /// The statistics cover all half-bits, so they are written after the whole capture was read.
 ///

@@ -1,4 +1,5 @@
-//! The text of the statistics of a capture, with one number on each line.
+//! The text of the statistics of a capture. Each line has a name, and then a number, two limits or
+//! the word `none`.
 ghost use Rattle.std.specs.Prelude.{◌≡◌, ◌<◌, ◌≤◌, ◌+◌, ◌++◌, ℕ, List, IfSome, length, codes};
 ghost use Rattle.std.specs.Fmt.{decimal};
 ghost use Rattle.arrayvec.specs.ArrayVec.{array_vec_len};

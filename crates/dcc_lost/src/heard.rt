@@ -120,8 +120,9 @@ impl Heard {
 
 ghost use Rattle.dcc_lost.specs.Inner.{unused_next, since_next};
 
-/// Returns the number of unused half-bits after one more half-bit, for which the framer returned
-/// `seen`. Before this half-bit the number was `unused`.
+/// Returns the number of unused half-bits at the end of the pushed half-bits, after a further
+/// half-bit was pushed. Before this half-bit the number was `unused`. The framer returned `seen`
+/// for this half-bit.
 #[tactic(auto, unfolding(crate::specs::Inner::unused_next, dcc_wire::specs::Outcomes::ones_left))]
 fn unused_next(unused: u8, seen: &Seen) -> u8
     requires { unused ≤ 20 }
@@ -135,8 +136,8 @@ fn unused_next(unused: u8, seen: &Seen) -> u8
     }
 }
 
-/// Returns the number of half-bits after the last refusal, after one more half-bit, for which the
-/// framer returned `seen`. Before this half-bit the number was `since`.
+/// Returns the number of half-bits since the last refusal, counting a further half-bit for which
+/// the framer returned `seen`. Before this half-bit the number was `since`.
 #[tactic(auto, unfolding(crate::specs::Inner::since_next))]
 fn since_next(since: Option<u8>, seen: &Seen) -> Option<u8>
     ensures { result ≡ since_next since seen.now }

@@ -109,9 +109,10 @@ impl Comparer {
         (self.comparison.left_given, self.comparison.right_given)
     }
 
-    /// Returns the number of packets that the comparer stores. Until the verdict is decided, it
-    /// stores the packets of block n of both lists. The number n is the smaller of the two numbers
-    /// of own writes that cut the lists into blocks so far.
+    /// Returns the number of packets that the comparer stores. Count the own writes that have ended
+    /// a block in each list so far, and let n be the smaller count. Until the verdict is decided,
+    /// the comparer stores the packets of block n of the first list and of block n of the second
+    /// list. Blocks are counted from 0.
     pub fn held(&self) -> u64
         ensures { (lists : Lists) → ComparerRepresents self.now lists → ((v : VerdictOf)
             → ¬ (self.now.wants ≡ Wants.Done v))

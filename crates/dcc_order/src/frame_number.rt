@@ -1,4 +1,4 @@
-//! Functions that convert a frame to a number.
+//! Functions that encode a frame as one number, which is a key of an index.
 
 ghost use Rattle.std.specs.Prelude.{◌≡◌, ◌<◌, ◌≤◌, ◌+◌, ◌*◌, ◌^◌, length};
 ghost use Rattle.dcc_order.specs.FrameNumbers as index;
@@ -8,7 +8,7 @@ ghost use Rattle.dcc_wire.specs.Frames.{IsFrame};
 use dcc_packet::Packet;
 use dcc_wire::Frame;
 
-/// Returns the number of the frame of a packet.
+/// Returns the frame of a packet as one number, as `frame_number` does.
 pub fn number_of_frame(packet: &Packet) -> u64
     ensures number { result ≡ index.frame_number (spelling packet.now) }
     ensures valid { IsFrame (spelling packet.now) }
@@ -16,7 +16,8 @@ pub fn number_of_frame(packet: &Packet) -> u64
     frame_number(&packet.frame())
 }
 
-/// Returns the bytes of a frame as one number. Different frames have different numbers.
+/// Returns the bytes of a frame as one number, whose digits in base 256 are the bytes and a 1.
+/// Different frames have different numbers.
 pub fn frame_number(frame: &Frame) -> u64
     ensures number { result ≡ index.frame_number frame.now }
     ensures valid { IsFrame frame.now }
@@ -25,8 +26,8 @@ pub fn frame_number(frame: &Frame) -> u64
     number_of_bytes(bytes)
 }
 
-/// Returns `bytes` as one number. The first byte is the lowest byte of the number, and a byte 1
-/// stands above the last byte.
+/// Returns `bytes` as one number in base 256. The first byte is the lowest digit, and a digit 1
+/// comes above the last byte.
 fn number_of_bytes(bytes: &[u8]) -> u64
     requires { length bytes.now ≤ 6 }
     ensures { result ≡ index.frame_number bytes.now }
@@ -42,8 +43,8 @@ fn number_of_bytes(bytes: &[u8]) -> u64
     }
 }
 
-/// Returns the number of a list of bytes that begins with `byte`. The number of the bytes after
-/// `byte` is `later`.
+/// Returns the number that encodes a list of bytes, as `number_of_bytes` does. The list begins with
+/// `byte`, and `later` is the number that encodes the other bytes of the list.
 fn below(byte: &u8, later: u64) -> u64
     requires { later < 2 ^ 56 }
     ensures { result ≡ byte.now + 256 * later }

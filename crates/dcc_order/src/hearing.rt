@@ -28,7 +28,7 @@ fn hear_seen<D: Decoder>(decoders: &mut [D], seen: &Seen)
 /// hears the packet. If no packet ends, no decoder changes. Returns the outcome that the framer
 /// returns.
 ///
-/// `hear_half` does what [`hear`] does, for decoders of one type, which can be in boxes.
+/// `hear_half` does what [`hear`] does, for decoders of one type, which can be `Box<dyn Decoder>`.
 #[inline(always)]
 pub fn hear_half<D: Decoder>(decoders: &mut [D], framer: &mut Framer, us: u16) -> Seen
     // The framer takes the half-bit, and the result is the outcome that ends with this half-bit.
@@ -57,7 +57,8 @@ pub fn hear_half<D: Decoder>(decoders: &mut [D], framer: &mut Framer, us: u16) -
 /// packet ends in these half-bits. If a packet ends, each decoder hears the packet. If no packet
 /// ends, no decoder changes. Returns the outcome that the framer returns.
 ///
-/// `hear_half_run` does what [`hear_run`] does, for decoders of one type, which can be in boxes.
+/// `hear_half_run` does what [`hear_run`] does, for decoders of one type, which can be `Box<dyn
+/// Decoder>`.
 pub fn hear_half_run<D: Decoder>(
     decoders: &mut [D],
     framer: &mut Framer,

@@ -15,19 +15,20 @@ use std::alloc::{AllocError, Global};
 use std::collections::BTreeMap;
 use std::marker::Model;
 
-/// The open blocks of two lists. The packets of the second block are stored as numbers of packets
-/// of the first block. A packet of the second block that the first block does not contain is not
-/// stored, since the blocks then differ.
+/// The open blocks of two lists: the first block belongs to the first list, and the second block to
+/// the second list. Each different packet of the first block has a number, and the packets of the
+/// second block are stored as these numbers. A packet of the second block that the first block does
+/// not contain is not stored, since the blocks then differ.
 ///
 /// All memory is allocated while packets are appended. The memory holds the packets of the blocks,
-/// the turns of each different packet, and an index of the different packets by the numbers of
-/// their frames.
+/// the turns of each different packet, and an index of the different packets. A key of the index is
+/// a frame that `frame_number` encodes as a number.
 #[derive(Drop)]
 pub struct HeldBlocks {
     places: Vec<Place>,
     count: usize,
     others: Vec<usize>,
-    // the number of each different packet, with the number of its frame as the key
+    // the number of each different packet, with the `frame_number` of its frame as the key
     index: BTreeMap<u64, usize>,
     // these lists have capacity for the turns of each different packet, and are empty except during
     // a comparison

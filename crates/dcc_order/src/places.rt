@@ -1,5 +1,5 @@
-//! An array of slots, which stores the packets of a block and also the different packets of this
-//! block.
+//! An array of slots. The array stores the packets of the first block, which is the open block of
+//! the first list, and also the different packets of this block.
 
 ghost use Rattle.std.specs.Prelude.{◌≡◌, ◌↔◌, ◌<◌, ◌≤◌, ℕ, IsTrue, length, slice_index_or, slice_set, vec_len};
 ghost use Rattle.std.specs.Prelude.{vec_capacity, Contains, ◌+◌, ◌++◌, ◌∷◌, []};
@@ -18,8 +18,8 @@ use dcc_packet::Packet;
 use dcc_regs::{conflict, sets_nothing};
 use std::collections::BTreeMap;
 
-/// A slot of the first block, with two independent parts. The field `number` of slot i is the
-/// number of the packet at place i of the block. The field `member` is the different packet with
+/// A slot of the array, with two independent fields. In slot i, the field `number` is the number of
+/// the packet at place i of the first block. The field `member` is the different packet with the
 /// number i, if there is one. So the different packets do not need a separate array.
 #[derive(Clone, Copy, Debug)]
 pub struct Place {
@@ -27,8 +27,8 @@ pub struct Place {
     pub member: Packet,
 }
 
-/// Returns the number of a frame in the index. Returns `count` if the index does not contain the
-/// frame.
+/// Returns the number of the packet whose frame has the number `frame`, or `count` if the index
+/// does not contain the frame.
 pub fn number_at(index: &BTreeMap<u64, usize>, frame: u64, count: usize) -> usize
     ensures { result ≡ unwrap_or (get nat_cmp index.now frame) count }
 {
@@ -64,7 +64,7 @@ pub fn set_distinct_packet(places: &mut Vec<Place>, at: usize, packet: &Packet)
 }
 
 /// Returns true if `numbers` contains each number below `count`. The list `turns` must have
-/// capacity for `count` entries.
+/// capacity for `count` elements.
 pub fn contains_all_below(numbers: &[usize], count: usize, turns: &mut Vec<Turns>) -> bool
     requires below { AllByRecursion (λ n. n < count) numbers.now }
     requires room { count ≤ vec_capacity turns.old }
@@ -76,8 +76,8 @@ pub fn contains_all_below(numbers: &[usize], count: usize, turns: &mut Vec<Turns
     all_rivals_occur(turns.as_slice())
 }
 
-/// Returns true if the block contains each rival. The parameter `turns` must have the turns of a
-/// packet that the block does not contain.
+/// Returns true if a block contains each rival. The parameter `turns` must have the turns of each
+/// rival with a packet that the block does not contain.
 fn all_rivals_occur(turns: &[Turns]) -> bool
     ensures { IsTrue result ↔
         ((k : ℕ) (t : TurnsOf) → k < length turns.now → IsTrue (slice_index_or turns.now k t).rival_last) }
@@ -91,7 +91,7 @@ fn all_rivals_occur(turns: &[Turns]) -> bool
 }
 
 /// Returns true if every two different packets that conflict alternate in the same way in both
-/// blocks. The lists of turns must have capacity for an entry for each different packet.
+/// blocks. The lists of turns must have capacity for one element for each different packet.
 pub fn same_turns_of_all(
     places: &[Place],
     count: usize,
@@ -186,7 +186,7 @@ fn count_turns(turns: &mut Vec<Turns>, own: usize, count: usize, numbers: &[usiz
     }
 }
 
-/// Sets `turns` to `count` entries, one for each rival, in which no turn was taken.
+/// Sets `turns` to `count` elements, one for each rival. In each element no turn was taken.
 fn begin_turns(turns: &mut Vec<Turns>, count: usize)
     requires { count ≤ vec_capacity turns.old }
     ensures begun { Started turns.new.items count }

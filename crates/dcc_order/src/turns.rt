@@ -1,4 +1,5 @@
-//! The turns that a packet and its rivals take in a block.
+//! The turns that a packet and each of its rivals take in a block. A rival is the other packet of
+//! an alternation.
 
 ghost use Rattle.std.specs.Prelude.{◌≡◌, ◌↔◌, ◌<◌, ◌-◌, ◌^◌, ℕ, IsTrue, length, slice_index_or, map};
 ghost use Rattle.dcc_order.specs.declared.turns.Turns.{Turns};

@@ -58,8 +58,8 @@ pub fn speed128_bits(word: &[u8]) -> Result<SpeedBits128, PacketFault>
     SpeedBits128::new(small_number(word)?)
 }
 
-/// Returns the function group whose first function has the number `word`. A word with a leading
-/// zero is not accepted.
+/// Returns the function group that a word means: `0` for F1 to F4 and F0, otherwise the number of
+/// the first function of the group. A word with a leading zero is not accepted.
 ///
 /// Errors: P10 for any other word.
 pub fn group(word: &[u8]) -> Result<Group, PacketFault>

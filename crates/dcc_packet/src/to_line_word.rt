@@ -120,7 +120,8 @@ pub(crate) fn switch_word(on: bool) -> &'static str
     if on { "on" } else { "off" }
 }
 
-/// Returns the number of the first function of the group, as a word.
+/// Returns the word of a function group: `0` for F1 to F4 and F0, otherwise the number of the first
+/// function of the group.
 pub(crate) fn group_word(group: Group) -> &'static str
     ensures value { result.now ≡ group_word group }
     ensures len { length result.now ≤ 2 }

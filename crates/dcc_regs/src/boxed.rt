@@ -1,11 +1,11 @@
-//! The implementation of `Decoder` for decoders in boxes.
+//! The implementation of `Decoder` for a `Box` with a decoder.
 
 use crate::decoder::Decoder;
 use crate::register::{Register, Value, Who};
 use dcc_packet::Packet;
 
-/// A box with a decoder of any type is a decoder with the address and the registers of the decoder
-/// in the box. So functions for fleets of one type accept fleets of several types too.
+/// A `Box` with a decoder of any type is a decoder. It has the address and the registers of the
+/// decoder in the `Box`. So functions for fleets of one type accept fleets of several types too.
 impl Decoder for Box<dyn Decoder> {
     ghost who = { λ decoder. (Decoder-box decoder).who decoder.value };
 

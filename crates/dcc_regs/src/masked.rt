@@ -33,7 +33,8 @@ impl Masked {
         Masked { mask: 0, bits: 0 }
     }
 
-    /// Returns `word` after the packet has set its bits.
+    /// Returns `word` with the bits of `mask` set as in this effect, and with all other bits
+    /// unchanged.
     #[inline(always)]
     pub(crate) fn over(&self, word: u128) -> u128
         ensures { (n : ℕ) → is_one result n ≡ unwrap_or (masked_bit self.now.mask self.now.bits n) (is_one word n) }

@@ -31,7 +31,8 @@ impl MaskedByte {
         MaskedByte { mask: 0, bits: 0 }
     }
 
-    /// Returns `byte` after the packet has set its bits.
+    /// Returns `byte` with the bits of `mask` set as in this effect, and with all other bits
+    /// unchanged.
     pub(crate) fn over(&self, byte: u8) -> u8
         ensures { (n : ℕ) → is_one result n ≡ unwrap_or (masked_bit self.now.mask self.now.bits n) (is_one byte n) }
     {

@@ -22,7 +22,7 @@ const MOST: usize = 64;
 
 /// Returns the decoders of the decoder text at the beginning of the input, which has version 1 or
 /// 2. The function reads no input after the line `end`. The function `restore` accepts the state of
-///    each decoder. `read_decoders` allocates once, before it reads.
+/// each decoder. `read_decoders` allocates once, before it reads.
 ///
 /// Errors: U3 with the number of a line and the first error of this line. The error of the line is
 /// P10 if a line or a word is missing or not allowed. The error of the line is P11 if a number is

@@ -128,7 +128,8 @@ fn append_where_on(bits: u128, n: u8, rows: &mut Rows)
     }
 }
 
-/// The kind of the line `pending PACKET`, with the pending CV write to the address `address`.
+/// The kind of line `pending PACKET`. The word PACKET is the frame of the pending CV write of a
+/// decoder with the address `address`, or `none`.
 #[derive(Clone, Copy)]
 pub(crate) struct PendingLine {
     pub address: Option<Address>,
@@ -167,7 +168,8 @@ fn append_pending(pending: &Option<Packet>, rows: &mut Rows)
     }
 }
 
-/// The kind of the line `cv CV VALUE`, whose CV is at least `least`, and of the line after the CVs.
+/// The kind of a line that is `cv CV VALUE`, with a CV of at least `least`, or the line after the
+/// lines of the CVs.
 #[derive(Clone, Copy)]
 pub(crate) struct CvLine {
     pub least: u16,

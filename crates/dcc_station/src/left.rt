@@ -87,8 +87,9 @@ fn is_left_by_stop(forward: bool, bits: u8, set: &What) -> bool
     has_speed(set, bits / 2, way)
 }
 
-/// Returns true if the entry sets no speed. Returns true also if the entry sets the speed `bits`,
-/// in the bits of 128 steps, and the direction `way`.
+/// Returns true if the entry sets no speed. Returns true also if the entry sets the speed `bits`
+/// and the direction `way`. The number `bits` is the speed in the form of the bits of an
+/// instruction with 128 steps.
 fn has_speed(set: &What, bits: u8, way: Option<bool>) -> bool
     ensures { result ≡ kept.speed_kept bits way set.now }
 {

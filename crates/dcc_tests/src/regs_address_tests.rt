@@ -1,4 +1,4 @@
-//! Tests of active addresses with worked examples, for both types of locomotive decoders.
+//! Tests of active addresses with worked examples, for `LocoDecoder` and `PackedLoco`.
 
 use crate::regs_examples::*;
 use dcc_packet::{Address, Packet};

@@ -1,4 +1,4 @@
-//! Tests of accessory decoders with worked examples, for both types.
+//! Tests of accessory decoders with worked examples, for `BoardDecoder` and `PackedBoard`.
 
 use crate::regs_examples::*;
 use dcc_packet::Board;

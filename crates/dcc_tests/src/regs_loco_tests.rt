@@ -1,4 +1,4 @@
-//! Tests of locomotive decoders with worked examples, for both types.
+//! Tests of locomotive decoders with worked examples, for `LocoDecoder` and `PackedLoco`.
 
 use crate::regs_examples::*;
 use dcc_packet::{CvNumber, Packet};

@@ -35,7 +35,7 @@ fn state_of(row: StateRow) -> Result<LocoState, PacketFault> {
     })
 }
 
-/// Checks that both types reject states that no decoder can have.
+/// Checks that `LocoDecoder` and `PackedLoco` reject states that no decoder can have.
 #[test]
 fn refused_locomotives(rt: HostRuntime) -> Result<(), Fail> {
     // (names the type of the pending packet of a decoder, as the toolchain requires)
@@ -70,7 +70,7 @@ fn refused_locomotives(rt: HostRuntime) -> Result<(), Fail> {
     Ok(())
 }
 
-/// Checks that both types accept possible states and return them unchanged.
+/// Checks that `LocoDecoder` and `PackedLoco` accept possible states and return them unchanged.
 #[test]
 fn restored_locomotives(rt: HostRuntime) -> Result<(), Fail> {
     // (names the types of fields of a decoder, as the toolchain requires)
@@ -151,7 +151,7 @@ fn board_state(board: Board) -> BoardState {
     }
 }
 
-/// Checks that both types reject board 511, which is the broadcast.
+/// Checks that `BoardDecoder` and `PackedBoard` reject board 511, which is the broadcast.
 #[test]
 fn refused_boards(rt: HostRuntime) -> Result<(), Fail> {
     let all = Board::new(511)?;

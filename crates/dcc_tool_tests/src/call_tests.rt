@@ -23,9 +23,9 @@
 //!
 //! 9. The number of input lines that must have been used.
 //!
-//! 10. The error that a second call must return, which writes nothing. If this column is empty, the
-//! second call must return the error of the first call. After a failed write there is no second
-//! call.
+//! 10. The error that a second call must return. If this column is empty, the second call must
+//! return the error of the first call. The second call must write nothing. After a failed write
+//! there is no second call.
 
 use crate::calls::{call_of, pair, text_of, told};
 use crate::fakes::{Giving, Taking};
