@@ -197,9 +197,9 @@ uint16_t dcc_sender_half(dcc_sender *sender);
 
 /* ---- decoders ---- */
 
-/* The _apply and _cv functions return 13 (P13) and write nothing if the fields of the struct are not a possible state of
- * a decoder. The _hears functions read only the address or the number of the decoder. They return 13 and write nothing
- * if no decoder can have this address or number. */
+/* The _apply and _cv functions return 13 (P13) and write nothing if the fields of the struct are not a possible state
+ * of a decoder. The _hears functions read only the address or the number of the decoder. They return 13 and write
+ * nothing if no decoder can have this address or number. */
 
 /* A locomotive decoder. */
 typedef struct {
