@@ -1,12 +1,13 @@
 #!/usr/bin/env python3
-"""Times each command of `dcc` on each form of capture beside `wc -w` on the same file, and prints a table.
+"""Times commands of `dcc` on each form of capture beside `wc -w` on the same file, and prints a table.
 
     bench/all.py [--instructions] [PROGRAM [OTHER]]
 
 PROGRAM is the program to measure, crates/dcc/out/dcc if it is not given. OTHER is another program with the same
-commands. The times are processor seconds (user and system) on one core, the median of ROUNDS runs. The commands run in
-turn. A ratio is the median of the ratios in each round, so a machine whose speed changes from second to second changes
-the ratio little. If OTHER is given, the last column is the ratio of PROGRAM to OTHER.
+commands. The times are processor seconds (user and system) on one core, the median of ROUNDS rounds. In each round the
+commands run in turn. A ratio is the median of the ratios of the rounds, so a machine whose speed changes from second to
+second changes the ratio little. If OTHER is given, the last column is the ratio of PROGRAM to OTHER. The environment
+variables HALVES, LINES and ROUNDS set the half-bits of a capture, the packet lines, and the rounds.
 
 With --instructions the script counts instructions by callgrind of valgrind, on inputs a fortieth as long. The number of
 instructions is the same in each run.

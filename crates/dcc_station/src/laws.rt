@@ -60,9 +60,9 @@ pub fn commands_are_sent_in_turn()
 /// Theorem: if `k` commands wait when a station accepts a command, the first copy of this command
 /// follows after at most `n = k * (repeats + 1)` packets. Let `preamble` be the number of ones
 /// before each packet. Then the first copy is complete within `(n + 1) * 2 * (preamble + 55)`
-/// half-bits, counted from the end of the packet that the station returned last before the command.
-/// The clause `microseconds` bounds this time by the durations of the half-bits. The theorem is
-/// about `Station`, `FixedStation` and the station in C.
+/// half-bits, counted from the end of the last packet that the station returned before it accepted
+/// the command. The clause `microseconds` bounds this time by the durations of the half-bits. The
+/// theorem is about `Station`, `FixedStation` and the station in C.
 pub fn commands_are_sent_in_time()
     ensures packets { CommandsWaitForFewPackets }
     ensures half_bits { CommandsAreSentInTime }
