@@ -192,7 +192,8 @@ typedef struct {
 uint8_t dcc_sender_start(dcc_sender *sender, const uint8_t *frame, uint64_t len, const dcc_timing *timing);
 
 /* Returns the next half-bit of the packet in microseconds, and counts this half-bit as sent. Returns 0 and writes
- * nothing if no half-bit is left. The function neither divides nor copies a frame, so a timer interrupt may call it. */
+ * nothing if no half-bit is left. The function uses no division and does not copy the frame, so a timer interrupt may
+ * call it. */
 uint16_t dcc_sender_half(dcc_sender *sender);
 
 /* ---- decoders ---- */

@@ -16,7 +16,7 @@ use dcc_regs::{Decoder, Notify, PackedLoco, apply_and_announce};
 use dcc_wire::{Framer, Seen};
 
 /// Lets a decoder hear a track, which is a list of half-bits in microseconds. After the call the
-/// decoder has the result of the packets of the track.
+/// registers of the decoder are the `result` of the packets on the track.
 ///
 /// The listener is notified of each packet that the decoder hears, by the callback for the kind of
 /// this packet, and of nothing else.

@@ -28,8 +28,9 @@ pub struct LostPacket {
 pub struct ShortPreamble {
     /// The number of half-bits of ones directly before the body that no outcome uses, fewer than 20.
     pub ones: u8,
-    /// The number of half-bits from the end of the last refusal to the end of the packet. It is
-    /// `None` unless this refusal uses the half-bit of a one before the unused half-bits of ones.
+    /// The number of half-bits from the end of the last refusal to the end of the packet. The
+    /// number is `None` unless this refusal uses the half-bit directly before the `ones` half-bits,
+    /// and this half-bit has the nearest class One.
     pub since_refusal: Option<u8>,
 }
 

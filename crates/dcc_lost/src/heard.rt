@@ -74,8 +74,8 @@ impl Heard {
         self.framer.is_hunting()
     }
 
-    /// Returns true if no body is unfinished and no outcome uses the last 20 half-bits. The number
-    /// of half-bits after a refusal must also be 255 or `None`.
+    /// Returns true if three conditions hold: no body is unfinished, no outcome uses the last 20
+    /// half-bits, and `since_refusal` is `None` or its greatest value, 255.
     pub(crate) fn is_still(&self) -> bool
         ensures { IsTrue result ↔ ((self.now.unused ≡ 20) × (is_hunting self.now.framer ≡ true)
             × IfSome self.now.since_refusal (λ count. count ≡ 255)) }

@@ -76,8 +76,8 @@ impl Comparer {
         self.comparison.wants
     }
 
-    /// Passes an item of the list that [`wants`](Self::wants) returns to the comparer: the next
-    /// packet, or `None` for the end. After the verdict is decided, the function changes nothing.
+    /// Gives the comparer the next item of the list that [`wants`](Self::wants) names: a packet, or
+    /// `None` for the end of the list. After the verdict is decided, the function changes nothing.
     ///
     /// Errors: NoMemory if an allocation fails. If an allocation fails, the comparer is unchanged,
     /// and the caller can pass the item again. The function does not allocate for an end, or for a

@@ -195,9 +195,9 @@ fn a_reset_leaves_a_new_locomotive(rt: HostRuntime) -> Result<(), Fail> {
     Ok(())
 }
 
-/// The value of CV29, packet lines that the decoder at short address 3 hears, and a list of binary
-/// states. If the third value is true, exactly the states of the list must be on. If it is false,
-/// exactly the states that are not in the list must be on.
+/// The value of CV29, packet lines that the decoder at short address 3 gets, a truth value, and a
+/// list of binary states. If the truth value is true, exactly the states in the list must be on. If
+/// the truth value is false, exactly the states that are not in the list must be on.
 type StateRow = (u8, &'static [&'static str], bool, &'static [u8]);
 
 const STATES: [StateRow; 12] = [

@@ -86,8 +86,8 @@ pub fn outcomes_are_the_rows_of_the_table()
 {}
 
 /// Theorem: exactly one row of the table fits a list of half-bits that begins with a half-bit of a
-/// zero. The row is a packet, one of the five errors, or an unfinished body, and fits in exactly
-/// one way.
+/// zero. This row is the row for packets, for one of the five errors, or for unfinished bodies. The
+/// list also determines the outcome in the row, and the number of half-bits of this outcome.
 pub fn exactly_one_row_of_the_table_fits()
     ensures some { SomeRowFits }
     ensures one { OneRowFits }
