@@ -14,8 +14,8 @@ use Rattle.dcc_send.specs.declared.encoding.Encode.{Encode}
 use Rattle.dcc_tool.specs.declared.performing.Request.{Request}
 use Rattle.dcc_tool.specs.declared.performing.Request.TheVariants as request
 
--- `given` is true if and only if the flag `id` was given, according to the text that clap stores
--- for this flag
+-- `given` is true if and only if the flag `id` was given. The text that clap stores for this flag
+-- in `rows` decides this.
 pub record IsFlag (id : Text) (rows : List Row) (given : Bool) : Type 0 where
   pub absent : one_of id rows ≡ None → given ≡ false
   pub set : one_of id rows ≡ Some (codes "true") → given ≡ true
@@ -25,7 +25,8 @@ pub record IsFlag (id : Text) (rows : List Row) (given : Bool) : Type 0 where
 abbrev pub IsNumber : ℕ → Text → Type 0
 IsNumber bits text = IsNumeral 10 (without_leading_plus text) × (digits_value 10 (without_leading_plus text) < 2 ^ bits)
 
--- `size` is the number that was given for the option `id`, or `other` if the option was not given
+-- `size` is the number that the parsed arguments `rows` have for the option `id`. If the option was
+-- not given, `size` is `other`.
 pub record IsSize (id : Text) (rows : List Row) (other : ℕ) (size : ℕ) : Type 0 where
   pub absent : one_of id rows ≡ None → size ≡ other
   pub given : (text : Text) → one_of id rows ≡ Some text → IsNumber 8 text
@@ -40,14 +41,14 @@ IsStation rows (Some (queue, slots, repeats)) =
     IsFlag (codes "station") rows true × IsSize (codes "queue") rows 16 queue × IsSize (codes "slots") rows 32 slots
     × IsSize (codes "repeats") rows 2 repeats
 
--- `how` is the encoding that the arguments request
+-- `how` is the encoding that the parsed arguments `rows` request
 pub record IsEncoding (rows : List Row) (how : Encode) : Type 0 where
   pub hex : IsFlag (codes "hex") rows how.hex
   pub service : IsFlag (codes "service") rows how.service
   pub station : IsStation rows how.station
 
--- the request to compare two captures for a decoder, or the error of the word that names the
--- decoder
+-- the request to compare two captures for the decoder that a word names. If the word has an error,
+-- the result is this error.
 abbrev pub compared_for : Result Who ToolFault → Result Request ToolFault
 compared_for (Ok who) = Ok (request.Same who)
 compared_for (Err refused) = Err refused
@@ -56,8 +57,8 @@ abbrev pub comparison : Option Text → Result Request ToolFault
 comparison None = Err (fault.Usage usage.Words)
 comparison (Some word) = compared_for (who_named word)
 
--- the request to read a CV, on an empty track if `empty` is true. The result is the error U1 if the
--- number of the CV is out of range.
+-- the request to read a CV. If `empty` is true, the track is empty. If the number of the CV is out
+-- of range, the result is the error U1.
 abbrev pub reading_of : Result CvNumber PacketFault → Bool → Result Request ToolFault
 reading_of (Ok cv) empty = Ok (request.ReadCv cv empty)
 reading_of (Err refused) empty = Err (fault.Usage usage.Words)

@@ -19,7 +19,8 @@ frame_numbers bytes = record { len = length bytes; bytes = zeros_behind 6 bytes 
 abbrev pub bytes_of : DccFrame → List ℕ
 bytes_of f = take f.len f.bytes
 
--- the number of the error of a result, 1 for L1 and 2 for L2, or 0 if the result is a frame
+-- the number of the error of a result: 1 for L1 and 2 for L2. If the result is a frame, the number
+-- is 0.
 abbrev pub frame_error_number : Result Frame FrameFault → ℕ
 frame_error_number (Ok frame) = 0
 frame_error_number (Err fault) = frame_fault_number fault

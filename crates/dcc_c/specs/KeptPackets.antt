@@ -9,8 +9,8 @@ use Rattle.dcc_packet.specs.Spelling.{spelling}
 use Rattle.dcc_wire.specs.Frames.{with_error_byte}
 use Rattle.dcc_packet.proofs.OneSpelling.{one_packet}
 
--- the bytes that store a packet: its frame, or no bytes for an idle packet. So a structure of zeros
--- is an idle packet.
+-- the bytes that store `packet`. The bytes of the idle packet are an empty list, and the bytes of
+-- any other packet are its frame. So a structure of zeros is an idle packet.
 abbrev pub kept_bytes : Packet → List ℕ
 kept_bytes Idle = []
 kept_bytes packet = spelling packet

@@ -51,7 +51,8 @@ speed_step (Step126 step) = step
 abbrev pub words_of : ℕ → List ℕ
 words_of bits = bits % 2 ^ 64 ∷ bits / 2 ^ 64 ∷ []
 
--- the C structure of the frame of a pending write, or of no bytes if no write is pending
+-- the C structure of the frame of a pending write. If no write is pending, the structure has no
+-- bytes.
 abbrev pub pending_numbers : Option Packet → DccFrame
 pending_numbers None = frame_numbers []
 pending_numbers (Some packet) = frame_numbers (spelling packet)

@@ -12,7 +12,7 @@ use Rattle.dcc_c.specs.declared.small_loco.DccSmallLoco.{DccSmallLoco}
 use Rattle.dcc_c.specs.Applied.{HasApplied}
 use Rattle.dcc_c.specs.Locos.{register_numbers}
 
--- the C structure of a locomotive decoder in state `s`, without the CVs except CV29
+-- the C structure of a locomotive decoder in state `s`. Of the CVs, the structure has only CV29.
 abbrev pub small_loco_numbers : LocoState → DccSmallLoco
 small_loco_numbers s = record { registers = register_numbers (registers_in s); cv29 = cv_in s.cvs 29 }
 

@@ -11,7 +11,8 @@ abbrev pub timing_numbers : Timing → DccTiming
 timing_numbers t =
     record { one = t.one; zero_first = t.zero_first; zero_second = t.zero_second; preamble = t.preamble }
 
--- the number of the error of a timing, 6 to 8 for H6 to H8, or 0 if the timing has no error
+-- the number of the error of a timing: 6 to 8 for H6 to H8. If the timing has no error, the number
+-- is 0.
 abbrev pub timing_number : Option TimingFault → ℕ
 timing_number None = 0
 timing_number (Some fault) = timing_fault_number fault

@@ -11,8 +11,8 @@ use Rattle.dcc_io.specs.Took.{within_limit, fault_at_end}
 use Rattle.dcc_io.specs.Items.{Items}
 use Rattle.dcc_capture.specs.Capture.{halves_of_words}
 
--- the half-bits of two captures before the first error of their input, and this error, or `None` if
--- there is no error
+-- the half-bits of two captures before the first error of their input, and this error. If the input
+-- has no error, `fault` is `None`.
 pub record Both : Type 0 where
   pub first : List ℕ
   pub second : List ℕ
@@ -35,25 +35,22 @@ abbrev pub has_more_words : ℕ → List PlacedWord → Bool
 has_more_words line [] = false
 has_more_words line (word ∷ words) = word.line == line
 
--- both captures of an input after a word `---` at the beginning of line `line`. The first capture
--- has no half-bit, and the second capture has the half-bits of `words`. If another word is on line
--- `line`, the error is U2.
+-- both captures of an input in which `words` follow a word `---` at the beginning of line `line`.
+-- The first capture has no half-bit, and the second capture is `halves_of_words most words last`.
+-- If the first of `words` is on line `line`, the error is U2.
 abbrev pub behind_mark : ℕ → ℕ → List PlacedWord → Option KeptFault → Both
 behind_mark line most words last =
     if has_more_words line words then fault_alone (Number line) else only_second (halves_of_words most words last)
 
--- both captures of an input whose first capture begins with `run`, if the limit allows `most`
--- half-bits. The function `rest` gives both captures of the words after `run`, for the number of
--- half-bits that the limit allows after `run`. If `run` has more than `most` half-bits, the error
--- is U7.
+-- both captures of an input whose first capture begins with `run`. The limit allows `most`
+-- half-bits. `rest (most - run.n)` gives both captures of the words after `run`. If `run` has more
+-- than `most` half-bits, the error is U7.
 abbrev pub counted_first : ℕ → Run → (ℕ → Both) → Both
 counted_first most run rest =
     if nat_le run.n most then in_front (replicate run.n run.us) (rest (most - run.n)) else fault_alone TooMuch
 
--- both captures of an input whose first capture begins with a word on line `line`, if the limit
--- allows `most` half-bits. The function `rest` gives both captures of the words after this word,
--- for the number of half-bits that the limit allows after the run of the word. If the word is no
--- run, the error is U2.
+-- both captures of an input whose first capture begins with a word on line `line`. If the word is a
+-- run, the captures are `counted_first most run rest`. If the word is no run, the error is U2.
 abbrev pub spelled_first : ℕ → ℕ → Option Run → (ℕ → Both) → Both
 spelled_first most line None rest = fault_alone (Number line)
 spelled_first most line (Some run) rest = counted_first most run rest
@@ -73,8 +70,9 @@ both_of before most end (word ∷ words) last =
 abbrev pub Said : Type 0
 Said = ℕ → List ℕ → Option KeptFault → Both
 
--- both captures of the bytes that are still to be read from `input`. The word before these bytes is
--- on line `before`, or `before` is 0 if there is no such word.
+-- both captures of `bytes`, which are still to be read from `input`. The word before `bytes` is on
+-- line `before`, or `before` is 0 if there is no such word. `last` is the error after `bytes`, or
+-- `None` if the input ends there. If the line `---` is missing, the error is P10 on line `end`.
 abbrev pub both_from : ℕ → InputState → Said
 both_from before input end bytes last = both_of before input.halves end (ended_words input.place bytes) last
 

@@ -11,16 +11,16 @@ use Rattle.dcc_io.specs.PassedWords.{Passed}
 use Rattle.dcc_io.specs.Items.{Items, Grammar, in_text, before_failure, items_behind, only_fault, Gave, StopsAt}
 use Rattle.dcc_io.specs.Words.{PlacedWord, ended_words, run_of}
 
--- the half-bits of `run`, and then the half-bits of the words after `run`, if the limit allows
--- `most` half-bits. The function `rest` gives the half-bits of these words, for the number of
--- half-bits that the limit allows after `run`. If `run` has more than `most` half-bits, the result
--- is the error U7.
+-- the half-bits of `run`, and then the half-bits `rest (most - run.n)` of the words after `run`.
+-- The limit allows `most` half-bits. If `run` has more than `most` half-bits, the result is the
+-- error U7.
 abbrev pub run_within : ℕ → Run → (ℕ → Items ℕ) → Items ℕ
 run_within most run rest =
     if nat_le run.n most then items_behind (replicate run.n run.us) (rest (most - run.n)) else only_fault (Some TooMuch)
 
--- the half-bits of the run of a word on line `line`, and then the half-bits of the words after this
--- word, as in `run_within`. If the word is no run, the result is the error U2 of line `line`.
+-- the half-bits of a word on line `line`, and then the half-bits of the words after this word. If
+-- the word is a run, the result is `run_within most run rest`. If the word is no run, the result is
+-- the error U2 of line `line`.
 abbrev pub behind_word : ℕ → ℕ → Option Run → (ℕ → Items ℕ) → Items ℕ
 behind_word most line None rest = only_fault (Some (Number line))
 behind_word most line (Some run) rest = run_within most run rest
@@ -43,14 +43,14 @@ capture_in input text = in_text captures input text
 abbrev pub capture_before_failure : InputState → List ℕ → Items ℕ
 capture_before_failure input used = before_failure captures input used
 
--- between the states `old` and `new`, the input read the half-bits `halves` without an error, and
--- their number was subtracted from the limit
+-- between the states `old` and `new`, the input read the half-bits `halves` without an error. The
+-- number of these half-bits was subtracted from the limit.
 pub record GaveHalves (old : InputState) (halves : List ℕ) (new : InputState) : Type 0 where
   pub items : Gave captures old halves new
   pub left : new.halves + length halves ≡ old.halves
 
--- the next word is a run of more half-bits than the limit of `old` allows, and its line is the last
--- line that was read
+-- the next word is a run of more half-bits than the limit of `old` allows. The line of this word is
+-- the last line that was read.
 pub record NextRunsOver (old new : InputState) : Type 0 where
   pub word : PlacedWord
   pub behind : InputState
@@ -60,8 +60,8 @@ pub record NextRunsOver (old new : InputState) : Type 0 where
   pub over : old.halves < run.n
   pub lines : IfSome old.text (λ text. new.lines ≡ word.line)
 
--- the input read some half-bits, and the next word is a run of more half-bits than the limit then
--- allows
+-- the input read some half-bits. The next word is a run of more half-bits than the limit still
+-- allows.
 pub record RunsOver (old new : InputState) : Type 0 where
   pub halves : List ℕ
   pub mid : InputState

@@ -19,8 +19,8 @@ abbrev pub SaysBehind : ℕ → InputState → Said → List ℕ → Type 0
 SaysBehind before input said used = (end : ℕ) (more : List ℕ) (last : Option KeptFault)
     → both_from before input end (used ++ more) last ≡ said end more last
 
--- the input read the bytes of `text` before `rest`. The function `said`, applied to the bytes after
--- these bytes, gives both captures of the input.
+-- the input read the bytes of `text` before `rest`. The function `said`, applied to `rest`, gives
+-- both captures of the input.
 abbrev pub LeadsIn : ℕ → InputState → InputState → Said → List ℕ → List ℕ → Type 0
 LeadsIn before old new said text rest = Uses (SaysBehind before old said) old new text rest
 
@@ -30,14 +30,14 @@ abbrev pub LeadsTo : ℕ → InputState → InputState → Said → Type 0
 LeadsTo before old new said = Took (SaysBehind before old said) old new
 
 -- both captures of an input that has read the half-bits `halves` of its first capture. The bytes
--- that are still to be read contain the other half-bits of both captures. The word before these
--- bytes is on line `before`.
+-- `more` are still to be read, and contain the other half-bits of both captures. The word before
+-- `more` is on line `before`.
 abbrev pub first_so_far : List ℕ → ℕ → InputState → Said
 first_so_far halves before input end more last = in_front halves (both_from before input end more last)
 
--- both captures of an input that has read its first capture and the word `---` at the beginning of
--- line `line`. The first capture consists of `halves`. The bytes that are still to be read contain
--- the second capture.
+-- both captures of an input that has read its first capture, and the word `---` at the beginning of
+-- line `line`. The first capture consists of `halves`. The bytes `more` are still to be read, and
+-- contain the second capture.
 abbrev pub first_is : List ℕ → ℕ → InputState → Said
 first_is halves line input end more last =
     in_front halves (behind_mark line input.halves (ended_words input.place more) last)
@@ -55,8 +55,8 @@ StopsBoth before old fault new =
     Stops (λ used. (end : ℕ) → both_from before old end used (Some Read) ≡ fault_alone Read)
     (λ text. in_limit (both_from before old) old text ≡ fault_alone fault) old fault new
 
--- the input read some half-bits of the first capture, and its next word is a run of more half-bits
--- than the limit then allows
+-- the input read some half-bits of the first capture. Its next word is a run of more half-bits than
+-- the limit still allows.
 pub record FirstRunsOver (before : ℕ) (old new : InputState) : Type 0 where
   pub halves : List ℕ
   pub line : ℕ
@@ -72,8 +72,8 @@ FirstLinesAt before old (Line line fault) new = IsAtEnd new.text × UsesAllLines
 FirstLinesAt before old TooMuch new = LinesAt old TooMuch new ⊎ FirstRunsOver before old new
 FirstLinesAt before old fault new = LinesAt old fault new
 
--- the result is the next run of the first capture with its line, `None` after the line `---`, or
--- the first error
+-- the result is the next run of the first capture and the line of this run. At the line `---` the
+-- result is `None`, and at the first error it is this error.
 abbrev pub AnswersFirst : ℕ → InputState → Result (Option (ℕ × Run)) KeptFault → InputState → Type 0
 AnswersFirst before old (Ok (Some taken)) new =
     LeadsTo before old new (first_so_far (replicate taken.1.n taken.1.us) taken.0 new)

@@ -14,16 +14,16 @@ use Rattle.dcc_io.specs.Held.{Holds, HoldsOrFails}
 use Rattle.dcc_capture.specs.Capture.{AnswersRun}
 use Rattle.dcc_capture.specs.Listing.{AreLines}
 
--- if the result is Ok, the bytes `held` and the lines of `items` were written, except for their
--- suffix `left`, which is buffered. If the result is an error, a write failed or wrote no byte, and
--- a prefix of these bytes was written.
+-- let `held` and then the lines of `items` form one list of bytes. If the result is Ok, this list
+-- was written except for its suffix `left`, which is buffered. If the result is an error, a write
+-- failed or wrote no byte, and a prefix of this list was written.
 abbrev pub HoldsLines : {A : Type 0} → (ℕ → A → List ℕ → Type 0) → List (ℕ × A) → WriterState → List ℕ
     → Result (Unit {0}) Failed → List ℕ → WriterState → Type 0
 HoldsLines IsLineOf items before held result left after =
     (text : List ℕ) × AreLines IsLineOf items text × HoldsOrFails before (held ++ text) result left after
 
--- all buffered bytes `held` were written and `result` is `answer`, or a write failed or wrote no
--- byte and `result` is the error U5
+-- there are two cases. Either all buffered bytes `held` were written, and `result` is `answer`. Or
+-- a write failed or wrote no byte, a prefix of `held` was written, and `result` is the error U5.
 abbrev pub WritesRest : WriterState → List ℕ → Result (Unit {0}) ToolFault → Result (Unit {0}) ToolFault → WriterState
     → Type 0
 WritesRest before held answer result after =
@@ -31,8 +31,8 @@ WritesRest before held answer result after =
     ⊎ ((result ≡ Err Write) × AppendsFront before after held × HasRisen before.failures after.failures)
 
 -- if the result is Ok, the buffered bytes `held` were written except for their suffix `left`, and
--- the next run was read. If the result is an error, a write failed or wrote no byte, and nothing
--- was read.
+-- the input read the next run. If the result is an error, a write failed or wrote no byte, and the
+-- input read nothing.
 abbrev pub ReadsRun : InputState → WriterState → List ℕ → Result (Result (Option Run) KeptFault) Failed → InputState
     → List ℕ → WriterState → Type 0
 ReadsRun old before held (Ok answer) new left after =

@@ -13,12 +13,13 @@ use Rattle.dcc_capture.specs.Listing.{AreLines, IsLine}
 use Rattle.dcc_io.specs.WriterState.{WriterState}
 use Rattle.dcc_io.specs.WrittenBytes.{AppendsFront}
 
--- the lines of `items` were written
+-- the lines of `items` were written between the states `before` and `after`. The predicate
+-- `IsLineOf` says which line an item has.
 abbrev pub WritesLines : {A : Type 0} → (ℕ → A → List ℕ → Type 0) → WriterState → WriterState → List (ℕ × A) → Type 0
 WritesLines IsLineOf before after items =
     (text : List ℕ) × AreLines IsLineOf items text × Appends before.contents after.contents text
 
--- a prefix of the lines of `items` was written
+-- a prefix of the lines of `items` was written between the states `before` and `after`
 pub record WritesFrontOfLines {A : Type 0} (IsLineOf : ℕ → A → List ℕ → Type 0) (before after : WriterState)
     (items : List (ℕ × A)) : Type 0 where
   pub shown : List (ℕ × A)
@@ -28,8 +29,8 @@ pub record WritesFrontOfLines {A : Type 0} (IsLineOf : ℕ → A → List ℕ �
   pub lists : AreLines IsLineOf shown text
   pub written : AppendsFront before after text
 
--- after a failed write, `fact` holds for the half-bits of the capture up to the error that the
--- input stores. If the input stores no error, `fact` holds for all half-bits.
+-- a write failed. If the input stores an error, `fact` holds for the half-bits of the capture
+-- before this error. If the input stores no error, `fact` holds for all half-bits of the capture.
 abbrev pub StopsWriting : InputState → Option KeptFault → InputState → (List ℕ → Type 0) → Type 0
 StopsWriting old (Some fault) new fact = ReadsUpTo captures old (Some fault) new fact × CaptureLinesAt old fault new
 StopsWriting old None new fact =
@@ -51,10 +52,10 @@ WritesLinesOfCapture IsLineOf items old before result new after =
     (StopsWriting old new.fault new (λ halves. WritesFrontOfLines IsLineOf before after (items halves))) ⊥ before result
     after
 
--- a listing of the outcomes in `halves` was written
+-- a listing of the outcomes in `halves` was written, with packet lines if `words` is true
 abbrev pub WritesListing : Bool → WriterState → WriterState → List ℕ → Type 0
 WritesListing words before after halves = WritesLines (IsLine words) before after (seen halves)
 
--- `show` writes the listing of the outcomes of a capture
+-- `show` writes the listing of the outcomes of a capture, with packet lines if `words` is true
 abbrev pub Shows : Bool → InputState → WriterState → Result (Unit {0}) ToolFault → InputState → WriterState → Type 0
 Shows words old before result new after = WritesLinesOfCapture (IsLine words) seen old before result new after

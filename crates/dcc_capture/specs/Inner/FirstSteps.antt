@@ -7,9 +7,9 @@ use Rattle.dcc_io.specs.InputState.{InputState}
 use Rattle.dcc_io.specs.Words.{run_of}
 use Rattle.dcc_io.specs.LineEnd.{SkipsToLineEnd}
 
--- the word `bytes` on line `line` is a run, and its half-bits were subtracted from the limit. If
--- the word is no run, the result is the error U2. If the limit does not allow the run, the result
--- is the error U7.
+-- the word `bytes` on line `line` is a run, and its half-bits were subtracted from the limit of
+-- half-bits. If the word is no run, the result is the error U2. If the run has more half-bits than
+-- the limit allows, the result is the error U7.
 abbrev pub CountsWord : InputState → ℕ → List ℕ → Result (Option (ℕ × Run)) KeptFault → InputState → Type 0
 CountsWord old line bytes (Ok (Some taken)) new =
     (taken.0 ≡ line) × (run_of bytes ≡ Some taken.1) × (taken.1.n ≤ old.halves)
