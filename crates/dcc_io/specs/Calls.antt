@@ -11,7 +11,7 @@ use Rattle.dcc_io.specs.Took.{LinesAt}
 use Rattle.dcc_io.specs.Items.{Grammar, ReadsUpTo, in_text}
 use Rattle.dcc_io.specs.WriterState.{WriterState}
 
--- if the result is Ok, `done` holds for its value. If the result is a stored error of the input,
+-- If the result is Ok, `done` holds for its value. If the result is a stored error of the input,
 -- `stopped` holds for this error. After a failed write `unwritten` holds, and after a failed
 -- allocation `no_memory` holds. Only a failed write increases the count of failures of the writer.
 abbrev pub CallPost : {A : Type 0} → (A → Type 0) → (KeptFault → Type 0) → Type 0 → Type 0 → WriterState
@@ -22,16 +22,16 @@ CallPost done stopped unwritten no_memory before (Err fault) after =
     ErrorPost (λ kept. stopped kept × (after.failures ≡ before.failures))
     (unwritten × HasRisen before.failures after.failures) (no_memory × (after.failures ≡ before.failures)) fault
 
--- the input in state `old` was read to its end without an error, and is then in state `new`. `fact`
--- holds for the list of its items.
+-- the input in state `old` was read to its end without an error, and is in state `new`. `fact`
+-- holds for the list of the items that `grammar` gives.
 pub record ReadsAll {A : Type 0} (grammar : Grammar A) (old new : InputState) (fact : List A → Type 0) : Type 0 where
   pub items : ReadsUpTo grammar old None new fact
   pub at_end : IsAtEnd new.text
   pub lines : UsesAllLines old new
   pub fault : new.fault ≡ None
 
--- the input in state `old` was read up to the error `fault`. The input is then in state `new`,
--- which stores this error. `fact` holds for the list of items before the error.
+-- the input in state `old` was read up to the error `fault`, and is in state `new`, which stores
+-- this error. `fact` holds for the list of the items before the error.
 pub record ReadsTo {A : Type 0} (grammar : Grammar A) (old : InputState) (fault : KeptFault) (new : InputState)
     (fact : List A → Type 0) : Type 0 where
   pub kept : new.fault ≡ Some fault
@@ -43,9 +43,9 @@ IsOfLines (kept.Number line) = ⊥
 IsOfLines fault = Unit {0}
 
 -- an operation that reads lines and writes text for each line, such as `encode`, has returned
--- `result`. `whole` holds for the items of all lines, or of the lines before the first error of the
--- input. If a write failed, no read failed, no error was stored, and `front` holds for the items of
--- all lines.
+-- `result`. If no write failed, `whole` holds for the items of all lines before the first error of
+-- the input. If a write failed, three facts hold: `front` holds for the items of all lines before
+-- the first error of the text, no read failed, and the input stores no error.
 abbrev pub WritesOfLines : {A : Type 0} → Grammar A → (List A → Type 0) → (List A → Type 0) → InputState → WriterState
     → Result (Unit {0}) ToolFault → InputState → WriterState → Type 0
 WritesOfLines grammar whole front old before result new after =

@@ -7,8 +7,8 @@ use Rattle.dcc_io.specs.InputState.{InputState}
 use Rattle.dcc_io.specs.Words.{duration_of, run_of}
 use Rattle.dcc_io.specs.PassedWords.{Passed}
 
--- the half-bits of `run` were subtracted from the limit of half-bits. If the limit has too few
--- half-bits, the result is the error U7.
+-- the half-bits of `run` were subtracted from the limit of half-bits. If `run` has more half-bits
+-- than the limit allows, the result is the error U7.
 abbrev pub CountsRun : InputState → Run → Result (Option Run) KeptFault → InputState → Type 0
 CountsRun old run (Ok (Some taken)) new =
     (taken ≡ run) × (run.n ≤ old.halves) × (new ≡ record old { halves = old.halves - run.n })

@@ -5,7 +5,7 @@ use Rattle.dcc_io.specs.declared.fault.ToolFault.TheVariants.{Usage, Number, Lin
 use Rattle.dcc_io.specs.declared.fault.KeptFault.{KeptFault}
 use Rattle.dcc_io.specs.declared.fault.KeptFault.TheVariants as kept
 
--- the number of the error code U1 to U7 of an error, without the letter U
+-- the number of an error in its error code: 1 to 7 for U1 to U7
 abbrev pub tool_fault_number : ToolFault → ℕ
 tool_fault_number (Usage usage) = 1
 tool_fault_number (Number line) = 2
@@ -22,9 +22,9 @@ as_tool_fault (kept.Line line fault) = Line line fault
 as_tool_fault kept.Read = Read
 as_tool_fault kept.TooMuch = TooMuch
 
--- the property that holds after an error of a function: `stopped` after a stored error of its
--- input, `unwritten` after a failed write, `no_memory` after a failed allocation. The function does
--- not return U1.
+-- the property that holds after an error of a function. After a stored error of its input it is
+-- `stopped`, after a failed write `unwritten`, and after a failed allocation `no_memory`. The
+-- function does not return U1.
 abbrev pub ErrorPost : (KeptFault → Type 0) → Type 0 → Type 0 → ToolFault → Type 0
 ErrorPost stopped unwritten no_memory (Number line) = stopped (kept.Number line)
 ErrorPost stopped unwritten no_memory (Line line fault) = stopped (kept.Line line fault)

@@ -29,13 +29,14 @@ pub record InputState : Type 0 where
   -- the number of failed reads
   pub failures : ℕ
 
--- the number of line feeds that the input still appends to its text: 0 if `closed` is true,
--- otherwise 1
+-- the number of line feeds that the input still appends to its text. The number is 0 if `closed` is
+-- true, otherwise 1.
 abbrev pub closing : Bool → ℕ
 closing closed = if closed then 0 else 1
 
--- the bytes `coming` of the reader, and a line feed after them. If this line feed was already read,
--- there are no bytes.
+-- the bytes that an input still reads, if its reader has the bytes `coming`. If `closed` is false,
+-- they are `coming` and then a line feed. If `closed` is true, this line feed was already read, and
+-- the list is empty.
 abbrev pub closed_text : Bool → Option (List ℕ) → Option (List ℕ)
 closed_text closed coming = option_map (λ bytes. if closed then [] else bytes ++ 10 ∷ []) coming
 
@@ -95,7 +96,7 @@ pub record FailsToRead (old new : InputState) : Type 0 where
   pub fault : new.fault ≡ Some Read
   pub failures : new.failures ≡ one_more old.failures
 
--- the limit of `old` allows no further byte, but its text has further bytes
+-- the limit of `old` allows no further byte, but the text of `old` has further bytes
 pub record HasMoreBytes (old new : InputState) : Type 0 where
   pub text : IfSome old.text (λ text. old.bytes < length text)
   pub bytes : old.bytes ≤ 1

@@ -6,7 +6,8 @@ use Rattle.dcc_io.specs.Failures.{HasRisen}
 use Rattle.dcc_io.specs.InputState.{InputState}
 use Rattle.dcc_io.specs.Took.{Uses, Took, within_limit, StandsBehind, Stops}
 
--- the items of a text before its first error, and this error, or `None` if the text has no error
+-- the items of a text before its first error, and this error. If the text has no error, `fault` is
+-- `None`.
 pub record Items (A : Type 0) : Type 0 where
   pub said : List A
   pub fault : Option KeptFault
@@ -23,11 +24,11 @@ items_behind front items = record { said = front ++ items.said; fault = items.fa
 abbrev pub Grammar : Type 0 → Type 0
 Grammar A = InputState → List ℕ → Option KeptFault → Items A
 
--- the items of an `input` with the text `text`
+-- the items that `grammar` gives for an `input` with the text `text`
 abbrev pub in_text : {A : Type 0} → Grammar A → InputState → List ℕ → Items A
 in_text grammar input text = within_limit (grammar input) input text
 
--- the items of an `input` whose reader fails after the bytes `used`
+-- the items that `grammar` gives for an `input` whose reader fails after the bytes `used`
 abbrev pub before_failure : {A : Type 0} → Grammar A → InputState → List ℕ → Items A
 before_failure grammar input used = grammar input used (Some kept.Read)
 
@@ -38,11 +39,12 @@ abbrev pub PrefixParsesTo : {A : Type 0} → Grammar A → InputState → List A
 PrefixParsesTo grammar old items new used = (more : List ℕ) (last : Option KeptFault)
     → grammar old (used ++ more) last ≡ items_behind items (grammar new more last)
 
--- the input has read the bytes of `text` before `rest`, and these bytes have the items `items`
+-- the input has read the bytes of `text` before `rest`. By `grammar`, these bytes have the items
+-- `items`.
 abbrev pub Gives : {A : Type 0} → Grammar A → InputState → List A → InputState → List ℕ → List ℕ → Type 0
 Gives grammar old items new text rest = Uses (PrefixParsesTo grammar old items new) old new text rest
 
--- the input has read bytes with the items `items`, without an error
+-- between the states `old` and `new`, the input read bytes with the items `items` without an error
 abbrev pub Gave : {A : Type 0} → Grammar A → InputState → List A → InputState → Type 0
 Gave grammar old items new = Took (PrefixParsesTo grammar old items new) old new
 

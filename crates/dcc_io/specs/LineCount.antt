@@ -9,7 +9,7 @@ line_count [] = 0
 line_count (byte ∷ []) = 1
 line_count (byte ∷ next ∷ text) = if byte == 10 then 1 + line_count (next ∷ text) else line_count (next ∷ text)
 
--- a new input that has read all of its `text`, and the line feed after it, has read as many lines
+-- if a new input has read all of its `text`, and the line feed after it, it has read as many lines
 -- as `text` has
 abbrev pub LinesAreCounted : Type 0
 LinesAreCounted = (text : List ℕ) (failures halves bytes : ℕ)

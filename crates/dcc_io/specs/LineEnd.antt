@@ -9,8 +9,8 @@ abbrev pub IsBehindLine : ℕ → InputState → Type 0
 IsBehindLine line input = IfSome input.text (λ rest. (rest ≡ []) ⊎ (line < input.place.line))
 
 -- If the result is true, the line of `old` has no further word, and `new` is on a later line or at
--- the end. If the result is false, a further word was read on this line, and no byte of a later
--- line.
+-- the end. If the result is false, the input read a further word on this line, but no byte of a
+-- later line.
 abbrev pub SkipsToLineEnd : InputState → Result Bool KeptFault → InputState → Type 0
 SkipsToLineEnd old (Ok true) new = Passed old [] new × IsBehindLine old.place.line new
 SkipsToLineEnd old (Ok false) new = (word : List ℕ) × Passed old

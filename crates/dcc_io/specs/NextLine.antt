@@ -21,8 +21,8 @@ pub record IsOneLine (line : List ℕ) : Type 0 where
   pub good : is_good line ≡ true
   pub one : has_line_feed line ≡ false
 
--- the number of lines that were read when some bytes of line `line` were read, but not its line
--- feed. If no byte of this line was read, the number is still `lines`.
+-- the number of lines that the input has read when it has read the bytes `front` of line `line`,
+-- but not the line feed of this line. If `front` is empty, the number is still `lines`.
 abbrev pub lines_within : ℕ → ℕ → List ℕ → ℕ
 lines_within lines line [] = lines
 lines_within lines line (byte ∷ front) = line
@@ -68,18 +68,18 @@ pub record MeetsBadLine (old : InputState) (number : ℕ) (new : InputState) : T
   pub fault : new.fault ≡ Some (Line number faults.Word)
   pub failures : new.failures ≡ old.failures
 
--- a read failed, and the input had read a prefix of one valid line before it
+-- the input read a prefix of one valid line, and then a read failed
 abbrev pub FailsInLine : InputState → InputState → Type 0
 FailsInLine old new = FailsBehind IsOneLine old new × (new.fault ≡ Some Read) × LinesAt old Read new
 
--- the bytes that the limit of `old` allows are a prefix of one valid line, and the text has more
--- bytes
+-- the limit of `old` allows fewer bytes than the text has. The allowed bytes are a prefix of one
+-- valid line.
 abbrev pub OverflowsInLine : InputState → InputState → Type 0
 OverflowsInLine old new = OverflowsBehind IsOneLine old new × (new.fault ≡ Some TooMuch) × LinesAt old TooMuch new
 
--- the result is the next line with its number, `None` at the end of the text, or an error. The
--- error is U3 for an invalid line, U4 if a read failed in the line, and U7 if the limit of bytes
--- ended in the line.
+-- the result is the next line with its number, or `None` at the end of the text, or an error. The
+-- error is U3 for an invalid line. It is U4 if a read failed within the line, and U7 if the limit
+-- of bytes ended within the line.
 abbrev pub AnswersLine : InputState → Result (Option TextLine) KeptFault → InputState → Type 0
 AnswersLine old (Ok (Some line)) new = ReadsLine old line.number line.text.bytes new
 AnswersLine old (Ok None) new = EndsText old new

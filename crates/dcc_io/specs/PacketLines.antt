@@ -21,39 +21,40 @@ is_comment_line (byte ∷ line) = byte == 35
 abbrev pub is_skipped : List ℕ → Bool
 is_skipped line = is_comment_line line || list_all is_separator line
 
--- the meaning of the lines of a text. `said` gives the value that the words of a line mean, and
--- `items` gives the items of this value.
+-- the meaning of the lines of a text. The function `said` gives the value that the words of a line
+-- mean. The function `items` gives the items of this value.
 pub record Saying (A B : Type 0) : Type 0 where
   pub said : List Word → Result B PacketFault
   pub items : B → List A
 
--- the items of the value of line `number`, followed by the items `rest`, or the error of this line
+-- the items of the value that the words of line `number` mean, and then the items `rest`. If these
+-- words have an error, the result has no items and this error.
 abbrev pub behind_words : {A B : Type 0} → Saying A B → ℕ → Result B PacketFault → Items A → Items A
 behind_words saying number (Ok says) rest = items_behind (saying.items says) rest
 behind_words saying number (Err fault) rest = only_fault (Some (kept.Line number fault))
 
--- the items of the line `line`, which a line feed ends, followed by the items `rest`, or the error
--- of this line
+-- the items of the line `line`, which ends with a line feed, and then the items `rest`. If `line`
+-- has an error, the result has no items and this error. A blank line and a comment have no items.
 abbrev pub behind_line : {A B : Type 0} → Saying A B → NumberedLine → Items A → Items A
 behind_line saying line rest =
     if not (is_good line.bytes) then only_fault (Some (kept.Line line.number faults.Word))
     else if is_skipped line.bytes then rest
     else behind_words saying line.number (saying.said (words line.bytes)) rest
 
--- the result for a last line without a line feed, which has no items. The error is P10 if the line
--- is invalid, otherwise `last`.
+-- the result for a last line `line` without a line feed. It has no items. Its error is P10 if
+-- `line` is invalid, otherwise `last`.
 abbrev pub open_line : {A : Type 0} → NumberedLine → Option KeptFault → Items A
 open_line line last =
     if is_good line.bytes then only_fault last else only_fault (Some (kept.Line line.number faults.Word))
 
--- the items of a list of lines up to the first error. The last line has no line feed. If no line
--- has an error, the error is `last`.
+-- the items of a list of lines before the first error, and this error. The last line has no line
+-- feed. If no line has an error, the error is `last`.
 abbrev pub items_of : {A B : Type 0} → Saying A B → List NumberedLine → Option KeptFault → Items A
 items_of saying [] last = only_fault last
 items_of saying (line ∷ []) last = open_line line last
 items_of saying (line ∷ next ∷ lines) last = behind_line saying line (items_of saying (next ∷ lines) last)
 
--- the grammar of lines with the meaning `saying`
+-- the grammar that gives the items of lines with the meaning `saying`
 abbrev pub lines_by : {A B : Type 0} → Saying A B → Grammar A
 lines_by saying input bytes last = items_of saying (lines_from input.place.line bytes) last
 

@@ -11,13 +11,14 @@ use Rattle.dcc_io.specs.Took.{LinesAt}
 use Rattle.dcc_io.specs.Items.{Gave, StopsAt, only_fault}
 use Rattle.dcc_io.specs.PacketLines.{Saying, lines_by, items_in}
 
--- the value that `as_said` returns for a parsed line, or the error of the line
+-- the value that `as_said` returns for a parsed line. If the line has an error, the result is this
+-- error.
 abbrev pub map_parsed : {B C : Type 0} → (C → B) → Result C PacketFault → Result B PacketFault
 map_parsed as_said (Ok says) = Ok (as_said says)
 map_parsed as_said (Err fault) = Err fault
 
--- the result is the value of the next line that is neither blank nor a comment, `None` after the
--- last such line, or the first error
+-- the result is the value of the next line that is neither blank nor a comment. After the last such
+-- line it is `None`, and at the first error it is this error.
 abbrev pub AnswersSaid : {A B C : Type 0} → Saying A B → (C → B) → InputState → Result (Option C) KeptFault → InputState
     → Type 0
 AnswersSaid saying as_said old (Ok (Some says)) new =
@@ -29,8 +30,8 @@ AnswersSaid saying as_said old (Err (kept.Number line)) new = ⊥
 AnswersSaid saying as_said old (Err fault) new =
     StopsAt (lines_by saying) old fault new × (new.fault ≡ Some fault) × LinesAt old fault new
 
--- the result is the value that the words of `line` mean, or their error, which the input then
--- stores
+-- the result is the value that the words of `line` mean. If these words have an error, the result
+-- is this error, and the input stores it.
 abbrev pub ReadsSaid : {A B C : Type 0} → Saying A B → (C → B) → InputState → TextLine → Result (Option C) KeptFault
     → InputState → Type 0
 ReadsSaid saying as_said old line (Ok (Some says)) new =

@@ -15,12 +15,12 @@ pub record Passed (old : InputState) (words : List PlacedWord) (new : InputState
   pub open took use *
   pub halves : new.halves ≡ old.halves
 
--- `bytes` contain no complete word if they are the next bytes of `input`
+-- if the next bytes of `input` are `bytes`, they contain no complete word
 abbrev pub IsBeforeWord : InputState → List ℕ → Type 0
 IsBeforeWord input bytes = ended_words input.place bytes ≡ []
 
--- the next word was read, which is on line `line`. No byte of a later line was read, and `so_far`
--- is the stored form of the word.
+-- the next word, which is on line `line`, was read, but no byte of a later line. `so_far` is the
+-- stored form of the word.
 pub record EndsWord (old : InputState) (line : ℕ) (so_far : RunWord) (new : InputState) : Type 0 where
   pub word : List ℕ
   pub spelled : Spells so_far word
@@ -30,8 +30,8 @@ pub record EndsWord (old : InputState) (line : ℕ) (so_far : RunWord) (new : In
   pub lines : IfSome old.text (λ text. new.lines ≡ line)
 
 -- the result is the next word with the number of its line, or `None` at the end of the text. If a
--- read failed or the limit of bytes ended before the word was complete, the result is the error U4
--- or U7.
+-- read failed before the word was complete, the result is the error U4. If the limit of bytes ended
+-- before the word was complete, the result is the error U7.
 abbrev pub AnswersWord : InputState → Result (Option (ℕ × RunWord)) KeptFault → InputState → Type 0
 AnswersWord old (Ok (Some word)) new = EndsWord old word.0 word.1 new
 AnswersWord old (Ok None) new = Passed old [] new × IsAtEnd new.text

@@ -30,14 +30,14 @@ StartsWithByte (Some text) byte (Some rest) = text ≡ byte ∷ rest
 abbrev pub IsAtEnd : Option (List ℕ) → Type 0
 IsAtEnd text = IfSome text (λ bytes. bytes ≡ [])
 
--- between the states `old` and `new`, the reader was read at most once, and not at all if the
--- buffer had bytes. So a reader that has returned its end is not read again in the same call.
+-- between the states `old` and `new`, there was at most one read, and no read if the buffer had
+-- bytes. So after a read that returned the end, there is no further read in the same call.
 pub record ReadsAtMostOnce (old new : ReaderState) : Type 0 where
   pub most : new.reads ≤ old.reads + 1
   pub ahead : 0 < length old.ahead → new.reads ≡ old.reads
 
--- the result is the next byte, `None` at the end of the text, or an error if a read failed. A
--- failed read removes no byte.
+-- the result is the next byte, or `None` at the end of the text. If a read failed, the result is an
+-- error, and no byte was removed.
 abbrev pub AnswersNext : ReaderState → Result (Option ℕ) Failed → ReaderState → Type 0
 AnswersNext old (Ok (Some byte)) new =
     StartsWithByte old.text byte new.text × (new.failures ≡ old.failures) × ReadsAtMostOnce old new

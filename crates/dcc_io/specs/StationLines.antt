@@ -39,19 +39,20 @@ send_field =
       written = λ send. decimal send.count ∷ [];
     }
 
--- a list with the request of a packet line, which is a command with the frame of this line, or the
--- error of the line
+-- a list with one request: the command with the frame of a packet line. If the line has an error,
+-- the result is this error.
 abbrev pub command_of : Result (List ℕ) PacketFault → Result (List Asked) PacketFault
 command_of (Ok frame) = Ok (Command frame ∷ [])
 command_of (Err fault) = Err fault
 
--- the requests of the line `send N`, which are N requests for a packet, or the error of the line
+-- the N requests for a packet that the line `send N` means. If the line has an error, the result is
+-- this error.
 abbrev pub packets_of : Result SendCount PacketFault → Result (List Asked) PacketFault
 packets_of (Ok send) = Ok (replicate send.count Next)
 packets_of (Err fault) = Err fault
 
--- the requests of a line with the given words, or the error of the line. The line is `send N` or a
--- packet line.
+-- the requests of a line with the given words, which is `send N` or a packet line. If the line has
+-- an error, the result is this error.
 unfoldable pub station_requests : List Word → Result (List Asked) PacketFault
 station_requests [] = command_of (frame_of_words [])
 station_requests (word ∷ rest) =

@@ -7,9 +7,9 @@ use Rattle.dcc_io.specs.declared.fault.KeptFault.TheVariants.{Number, Line, Read
 use Rattle.dcc_io.specs.Failures.{one_more}
 use Rattle.dcc_io.specs.InputState.{InputState, all_lines, lines_up_to}
 
--- an input that reads `used` in state `old` goes to state `new`. If one or more bytes follow, the
--- count of lines after these bytes is the same, whether it is computed from state `new` or from
--- state `old`.
+-- an input that reads `used` in state `old` goes to state `new`. Let the byte `next` and any bytes
+-- `more` follow `used`. Then `all_lines new (next ∷ more)` and `all_lines old (used ++ next ∷
+-- more)` are equal.
 abbrev pub CountsLines : InputState → List ℕ → InputState → Type 0
 CountsLines old used new = (next : ℕ) (more : List ℕ) → all_lines new (next ∷ more) ≡ all_lines old (used
     ++ next ∷ more)
@@ -33,14 +33,14 @@ pub record Took (fact : List ℕ → Type 0) (old new : InputState) : Type 0 whe
   pub fault : new.fault ≡ None
   pub failures : new.failures ≡ old.failures
 
--- the value of `said` for the bytes of `text`, if the limit of `input` allows all of these bytes.
--- Otherwise the value of `said` for the allowed bytes and the error U7.
+-- the value of `said` for all bytes of `text`, if the limit of `input` allows these bytes.
+-- Otherwise the value of `said` for the allowed bytes and the error U7 after them.
 abbrev pub within_limit : {A : Type 0} → (List ℕ → Option KeptFault → A) → InputState → List ℕ → A
 within_limit said input text =
     if nat_le (length text) input.bytes then said text None else said (take (input.bytes - 1) text) (Some TooMuch)
 
--- the error of a text that ends too early: the error of the input, if it has one, otherwise P10 on
--- line `line`
+-- the error of a text that ends too early: the error of the input if there is an error, otherwise
+-- P10 on line `line`
 abbrev pub fault_at_end : ℕ → Option KeptFault → KeptFault
 fault_at_end line None = Line line faults.Word
 fault_at_end line (Some fault) = fault
@@ -72,9 +72,9 @@ pub record UsesLines (old new : InputState) (text rest : List ℕ) : Type 0 wher
   pub more : 0 < length rest
   pub lines : new.lines ≡ lines_up_to old used
 
--- the input has read the lines up to an error. For U2 and U3 the last of these lines is the line
--- that the error names. For U4 these are the lines of the bytes before the failed read, and for U7
--- the lines of the bytes that the limit allows.
+-- the input has read the lines up to an error. For U2 and U3, the last of these lines is the line
+-- that the error names. For U4, they are the lines of the bytes before the failed read. For U7,
+-- they are the lines of the bytes that the limit allows.
 abbrev pub LinesAt : InputState → KeptFault → InputState → Type 0
 LinesAt old (Number line) new = IfSome old.text (λ text. new.lines ≡ line)
 LinesAt old (Line line fault) new = IfSome old.text (λ text. new.lines ≡ line)

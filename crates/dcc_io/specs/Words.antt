@@ -21,8 +21,8 @@ is_gap byte = byte == 32 || (byte == 9 || (byte == 13 || byte == 10))
 unfoldable pub comments : Bool → ℕ → Bool
 comments in_comment byte = if byte == 10 then false else (in_comment || byte == 35)
 
--- the text with a space in place of each byte of a comment. `in_comment` is true if the text begins
--- in a comment.
+-- the text with a space in place of each byte of a comment. If `in_comment` is true, the text
+-- begins within a comment.
 abbrev pub without_comments : Bool → List ℕ → List ℕ
 without_comments in_comment [] = []
 without_comments in_comment (byte ∷ text) =
@@ -32,8 +32,8 @@ abbrev pub onto_first : ℕ → List PlacedWord → List PlacedWord
 onto_first byte [] = []
 onto_first byte (word ∷ words) = record { line = word.line; bytes = byte ∷ word.bytes } ∷ words
 
--- the parts of a text between gaps, each with the number of its line. `line` is the number of the
--- first line.
+-- the parts of a text between its gaps, each with the number of its line. The text begins on line
+-- `line`.
 abbrev pub pieces : ℕ → List ℕ → List PlacedWord
 pieces line [] = record { line = line; bytes = [] } ∷ []
 pieces line (byte ∷ text) =
@@ -57,8 +57,8 @@ has_bytes word = is_some_byte word.bytes
 abbrev pub ended_words : TextPlace → List ℕ → List PlacedWord
 ended_words place text = filter has_bytes (but_last (pieces place.line (without_comments place.in_comment text)))
 
--- the duration of a word of 1 to 10 digits, or `None` for any other word. A duration above 65,535
--- counts as 65,535.
+-- the duration that `word` writes in 1 to 10 digits, or `None` if `word` has another form. A
+-- duration above 65,535 counts as 65,535.
 abbrev pub duration_of : List ℕ → Option ℕ
 duration_of word =
     if nat_lt 0 (length word) && (nat_le (length word) 10 && list_all is_ascii_digit word)
@@ -83,7 +83,7 @@ abbrev pub behind_star : List ℕ → Option (List ℕ)
 behind_star [] = None
 behind_star (byte ∷ word) = if byte == 42 then Some word else behind_star word
 
--- the count in the bytes after the `*` of a word, or 1 if the word has no `*`
+-- the number in the bytes `count` after the `*` of a word. If the word has no `*`, the result is 1.
 abbrev pub times : Option (List ℕ) → Option ℕ
 times None = Some 1
 times (Some count) = count_in_word count
@@ -93,7 +93,7 @@ run_with None n = None
 run_with (Some us) None = None
 run_with (Some us) (Some n) = Some (record { us = us; n = n })
 
--- the run of a word, which is a duration, or a duration, `*` and a count. The result is `None` for
+-- the run that `word` writes: a duration, or a duration, `*` and a count. The result is `None` for
 -- any other word.
 abbrev pub run_of : List ℕ → Option Run
 run_of word = run_with (duration_of (before_star word)) (times (behind_star word))

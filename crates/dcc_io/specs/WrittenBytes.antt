@@ -12,8 +12,8 @@ pub record AppendsFront (old new : WriterState) (bytes : List ℕ) : Type 0 wher
   pub whole : bytes ≡ front ++ rest
   pub written : Appends old.contents new.contents front
 
--- if the result is Ok, all `bytes` were written. If the result is an error, a write failed or wrote
--- no byte, and a prefix of `bytes` was written.
+-- if the result is Ok, all bytes of `bytes` were written. If the result is an error, a write failed
+-- or wrote no byte, and a prefix of `bytes` was written.
 abbrev pub Writes : WriterState → List ℕ → Result (Unit {0}) Failed → WriterState → Type 0
 Writes old bytes (Ok done) new = Appends old.contents new.contents bytes × (new.failures ≡ old.failures)
 Writes old bytes (Err failed) new = AppendsFront old new bytes × HasRisen old.failures new.failures

@@ -19,9 +19,10 @@ use Rattle.dcc_listen.specs.VerdictLine.{verdict_line}
 use Rattle.dcc_io.specs.WriterState.{WriterState}
 use Rattle.dcc_io.specs.WrittenBytes.{AppendsFront}
 
--- two captures were read to their ends, and `verdict` is the verdict on their packets. The verdict
--- is `Alike` if and only if these packets are alike for decoder `who`. After the verdict `Alike`,
--- equal registers at the start lead to equal registers after both captures.
+-- the captures of the inputs `left` and `right` were read to their ends, and `verdict` is the
+-- verdict on their packets. The verdict is `Alike` if and only if these packets are alike for
+-- decoder `who`. After the verdict `Alike`, equal registers at the start lead to equal registers
+-- after both captures.
 pub record Compared (who : Who) (left right left' right' : InputState) (verdict : Verdict) : Type 0 where
   pub packets : List Packet
   pub others : List Packet
@@ -31,8 +32,8 @@ pub record Compared (who : Who) (left right left' right' : InputState) (verdict 
   pub alike_is : (verdict ≡ Alike) ↔ AlikeFor who packets others
   pub alike : verdict ≡ Alike → LeaveTheSame who packets others
 
--- between the states `old` and `new`, no byte or a part of a capture was read, and no error
--- occurred
+-- between the states `old` and `new`, the input read a part of its capture, perhaps no byte. No
+-- error occurred.
 abbrev pub ReadsSome : InputState → InputState → Type 0
 ReadsSome old new = (new ≡ old) ⊎ ReadsOn old new
 

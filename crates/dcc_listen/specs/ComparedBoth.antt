@@ -18,9 +18,9 @@ use Rattle.dcc_listen.specs.VerdictLine.{verdict_line}
 use Rattle.dcc_io.specs.WriterState.{WriterState}
 use Rattle.dcc_io.specs.WrittenBytes.{AppendsFront}
 
--- both captures of an input were read to their ends, and `verdict` is the verdict on their packets.
--- The verdict is `Alike` if and only if these packets are alike for decoder `who`. After the
--- verdict `Alike`, equal registers at the start lead to equal registers after both captures.
+-- both captures of the input `input` were read to their ends, and `verdict` is the verdict on their
+-- packets. The verdict is `Alike` if and only if these packets are alike for decoder `who`. After
+-- the verdict `Alike`, equal registers at the start lead to equal registers after both captures.
 pub record ComparedBoth (who : Who) (input input' : InputState) (verdict : Verdict) : Type 0 where
   pub packets : List Packet
   pub others : List Packet

@@ -18,12 +18,13 @@ use Rattle.dcc_saved.specs.FleetText.{fleet_text}
 abbrev pub Fleet : Type 0
 Fleet = List (Who × RegisterMap)
 
--- each decoder of the fleet `starts` has heard the packets in `halves`, and then equals the decoder
--- at the same place of the fleet `ends`
+-- each decoder of the fleet `starts` has heard the packets in `halves`. The decoder then equals the
+-- decoder at the same place of the fleet `ends`.
 abbrev pub HaveHeard : Fleet → Fleet → List ℕ → Type 0
 HaveHeard starts ends halves = AllZip (λ start end. HasHeardHalves halves start.0 start.1 end.0 end.1) starts ends
 
--- the whole capture was read, and each decoder of the fleet `starts` has heard its packets
+-- the whole capture was read, and each decoder of the fleet `starts` has heard the packets of the
+-- capture. Each decoder then equals the decoder at the same place of the fleet `ends`.
 abbrev pub HearsAll : Fleet → InputState → Fleet → InputState → Type 0
 HearsAll starts old ends new = ReadsAll captures old new (HaveHeard starts ends)
 

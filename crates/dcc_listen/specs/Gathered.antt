@@ -11,7 +11,7 @@ use Rattle.dcc_io.specs.Items.{ReadsUpTo}
 use Rattle.dcc_capture.specs.Capture.{captures, CaptureLinesAt}
 
 -- a capture was read to its end without an error, between the states `old` and `new` of its input.
--- `packets` are the packets in its half-bits.
+-- `packets` are the packets in the half-bits of the capture.
 pub record Gathered (old : InputState) (packets : List Packet) (new : InputState) : Type 0 where
   pub none_kept : old.fault ≡ None
   pub hold : ReadsUpTo captures old None new (λ halves. ArePackets packets halves)

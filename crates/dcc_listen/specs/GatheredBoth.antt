@@ -45,8 +45,8 @@ pub record GatheredBoth (old : InputState) (packets others : List Packet) (new :
   pub lines : UsesAllLines old new
   pub fault : new.fault ≡ None
 
--- both captures were read up to an error. If the error is U4, a read failed. Otherwise the text of
--- the captures has this error.
+-- both captures were read up to an error. If this error is U4, a read failed. Any other error is
+-- the error of the two captures in the text of `old`.
 abbrev pub ReadsBothUpTo : InputState → KeptFault → InputState → Type 0
 ReadsBothUpTo old kept.Read new = HasRisen old.failures new.failures × (new.ahead ≡ [])
     × IfSome old.text
@@ -59,8 +59,8 @@ ReadsBothUpTo old (kept.Line line fault) new =
 ReadsBothUpTo old kept.TooMuch new =
     (new.failures ≡ old.failures) × IfSome old.text (λ text. (both_in old text).fault ≡ Some kept.TooMuch)
 
--- the first capture and the line `---` were read, and a run of the second capture has more
--- half-bits than the remaining limit allows
+-- the input read the first capture and the line `---`, and then a part of the second capture. The
+-- next run of the second capture has more half-bits than the limit still allows.
 pub record SecondRunsOver (old new : InputState) : Type 0 where
   pub halves : List ℕ
   pub mid : InputState

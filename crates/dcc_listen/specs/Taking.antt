@@ -19,8 +19,8 @@ pub record Gathering (start now : InputState) (framer : Framer) (packets : List 
   pub hold : ArePackets packets halves
   pub few : length packets ≤ length halves
 
--- the result is the next packet of the capture after `packets`, `None` at the end of the capture,
--- or the error of the capture
+-- the packets `packets` of the capture were read. The result is the next packet, or `None` at the
+-- end of the capture, or the error of the capture.
 abbrev pub ReadsPacket : InputState → List Packet → Result (Option Packet) KeptFault → InputState → Framer → Type 0
 ReadsPacket start packets (Ok (Some p)) now framer = Gathering start now framer (packets ++ p ∷ [])
 ReadsPacket start packets (Ok None) now framer = Gathered start packets now

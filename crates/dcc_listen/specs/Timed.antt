@@ -19,7 +19,7 @@ pub record StopsTiming (old : InputState) (fault : KeptFault) (new : InputState)
   pub lines : CaptureLinesAt old fault new
 
 -- if the result is Ok, the whole capture was read, and `timings` are the statistics of its
--- half-bits. If the result is an error, the capture was read up to this error.
+-- half-bits. If the result is an error, the capture was read up to the error.
 abbrev pub MeasuresCapture : InputState → Result Timings KeptFault → InputState → Type 0
 MeasuresCapture old (Ok timings) new =
     ReadsAll captures old new (λ halves. Measures timings halves × (new.halves + length halves ≡ old.halves))

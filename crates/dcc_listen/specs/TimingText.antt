@@ -1,5 +1,5 @@
 -- The text of the statistics of a list of half-bits. Each line has a name, and then a number, two
--- limits or the word `none`.
+-- numbers or the word `none`.
 use Rattle.std.specs.Prelude.{ℕ, ◌+◌, ◌/◌, ◌%◌, ◌++◌, List, [], ◌∷◌, Option, None, Some, length, sum, map, codes}
 use Rattle.std.specs.Fmt.{decimal}
 use Rattle.std.specs.List.{filter, count_by}
@@ -13,13 +13,13 @@ use Rattle.dcc_timing.specs.Outcomes.{is_packet, is_refused}
 use Rattle.dcc_timing.specs.PacketBits.{packet_bits_in, difference, is_one_pair, is_zero_pair, bit_duration}
 use Rattle.dcc_timing.specs.Gaps.{longest_gap}
 
--- the decimal digits of a number, or the word `none` if there is no number
+-- the decimal digits of `number`, or the word `none` if there is no number
 abbrev pub number_or_none : Option ℕ → List ℕ
 number_or_none None = codes "none"
 number_or_none (Some number) = decimal number
 
--- the text of a mean in microseconds with two digits of hundredths, or the word `none` if there is
--- no mean
+-- the text of `mean` in microseconds, with two digits of hundredths. If there is no mean, the text
+-- is the word `none`.
 abbrev pub mean_or_none : Option Mean → List ℕ
 mean_or_none None = codes "none"
 mean_or_none (Some mean) =
@@ -33,8 +33,8 @@ figure_line name word number = name ++ word ++ number_or_none number ++ codes "\
 unfoldable pub mean_line : List ℕ → Option Mean → List ℕ
 mean_line name mean = name ++ codes " mean " ++ mean_or_none mean ++ codes "\n"
 
--- the lines of the statistics of a list of numbers: the count, the least number, the greatest
--- number and the mean
+-- the four lines with the name `name` for the list `numbers`: its count, its least number, its
+-- greatest number and its mean
 unfoldable pub tally_lines : List ℕ → List ℕ → List ℕ
 tally_lines name numbers =
     figure_line name (codes " count ") (Some (length numbers))
@@ -42,7 +42,7 @@ tally_lines name numbers =
     ++ figure_line name (codes " most ") (most numbers)
     ++ mean_line name (mean numbers)
 
--- the lines of the outcomes in a capture: the number of packets, and the number of refusals with
+-- the lines of the list `outcomes`: the number of its packets, and the number of its refusals with
 -- each error code
 unfoldable pub outcome_lines : List (ℕ × Seen) → List ℕ
 outcome_lines outcomes =
@@ -53,8 +53,8 @@ outcome_lines outcomes =
     ++ figure_line (codes "refused") (codes " H4 ") (Some (count_by (is_refused 4) outcomes))
     ++ figure_line (codes "refused") (codes " H5 ") (Some (count_by (is_refused 5) outcomes))
 
--- the lines of ones and zeros: the statistics of their half-bits, and of the bits in packets, with
--- the limits of NMRA S-9.1
+-- the lines of ones and zeros. They have the statistics of the half-bits `halves` and of `bits`,
+-- which are the bits of packets, and the limits of NMRA S-9.1.
 unfoldable pub bit_lines : List ℕ → List (ℕ × ℕ) → List ℕ
 bit_lines halves bits =
     tally_lines (codes "ones") (filter is_half_of_one halves) ++ codes "ones station 55 61\nones decoder 52 64\n"
@@ -64,7 +64,7 @@ bit_lines halves bits =
     ++ codes "zeros station 95 9900\nzeros decoder 90 10000\n"
     ++ tally_lines (codes "sums") (map bit_duration (filter is_zero_pair bits)) ++ codes "sums station 12000\n"
 
--- the lines of the half-bits that are neither half of a one nor half of a zero
+-- the lines of those half-bits in `halves` that are neither half of a one nor half of a zero
 unfoldable pub other_lines : List ℕ → List ℕ
 other_lines halves =
     tally_lines (codes "below") (filter is_below halves)

@@ -16,20 +16,20 @@ packet_of_length n (Some (count, Packet bytes)) = if length bytes == n then Some
 packet_of_length n (Some (count, Refused fault)) = None
 packet_of_length n (Some (count, Nothing)) = None
 
--- the frame of `n` bytes whose body follows the first 8 half-bits of `durations`. The result is
--- `None` if the nearest class of one of these 8 half-bits is not One.
+-- the frame of `n` bytes whose body follows the first 8 half-bits of `durations`. If one of these 8
+-- half-bits does not have the nearest class One, the result is `None`.
 unfoldable pub frame_after_ones : ℕ → List ℕ → Option (List ℕ)
 frame_after_ones n durations =
     let halves = map nearest_class durations in
     if nat_le 8 (ones_before halves) then packet_of_length n (outcome_of (drop 8 halves)) else None
 
--- the frame of `n` bytes whose body is the end of the list `durations`, after at least 8 half-bits
--- of ones. The body of `n` bytes has 18 * n + 2 half-bits.
+-- the frame of `n` bytes for which `durations` ends with at least 8 half-bits of ones and the body
+-- of the frame. The body has `18 * n + 2` half-bits.
 unfoldable pub frame_at_end : ℕ → List ℕ → Option (List ℕ)
 frame_at_end n durations = frame_after_ones n (keep_last (18 * n + 10) durations)
 
--- the longest frame whose body is the end of the list `durations`, after at least 8 half-bits of
--- ones
+-- the longest frame for which `durations` ends with at least 8 half-bits of ones and the body of
+-- the frame
 unfoldable pub longest_frame_at_end : List ℕ → Option (List ℕ)
 longest_frame_at_end durations =
     option_or (frame_at_end 6 durations)

@@ -13,8 +13,8 @@ use Rattle.dcc_wire.specs.Framing.{is_hunting}
 use Rattle.dcc_lost.specs.Unused.{unused_at_end}
 use Rattle.dcc_lost.specs.Causes.{packet_lost, with_causes}
 
--- the list `durations` ends with at least 8 half-bits of ones and the body of `frame`, if each
--- half-bit has its nearest class
+-- if each half-bit has its nearest class, the list `durations` ends with at least 8 half-bits of
+-- ones and the body of `frame`
 pub record EndsWithFrame (durations frame : List ℕ) : Type 0 where
   pub frame_rule : IsFrame frame
   pub before : List Half
@@ -40,7 +40,7 @@ abbrev pub NoLostPacketIsSeen : Type 0
 NoLostPacketIsSeen =
     (durations : List ℕ) (us : ℕ) → packet_lost durations us ≢ None → seen (durations ++ us ∷ []) ≡ seen durations
 
--- a packet has at least one cause
+-- the lost packet `packet` has at least one cause
 abbrev pub HasCause : LostPacket → Type 0
 HasCause packet = (packet.preamble ≢ None) ⊎ (packet.ones ≢ None) ⊎ (packet.zeros ≢ None)
 
@@ -49,10 +49,11 @@ abbrev pub LostPacketsHaveCauses : Type 0
 LostPacketsHaveCauses =
     (durations : List ℕ) (us : ℕ) (packet : LostPacket) → packet_lost durations us ≡ Some packet → HasCause packet
 
--- Let an outcome use one of the last 20 half-bits before the body of a lost packet. If no body is
--- unfinished before the lost body, no outcome ends within the lost body. If a body is unfinished,
--- only its outcome ends within the lost body. So the outcome that uses the preamble is the last
--- outcome.
+-- Let an outcome use one of the last 20 half-bits before the body of a lost packet, and let
+-- `before` be all half-bits before this body. If no body is unfinished after `before`, no outcome
+-- ends within the body of the lost packet. If a body is unfinished after `before`, exactly one
+-- outcome ends within the body of the lost packet. So the outcome that uses the preamble is the
+-- last outcome.
 abbrev pub OneOutcomeUsesThePreamble : Type 0
 OneOutcomeUsesThePreamble =
     (durations : List ℕ) (us : ℕ) (frame before : List ℕ) → IsLost durations us frame

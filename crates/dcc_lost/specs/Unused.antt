@@ -7,26 +7,26 @@ use Rattle.dcc_wire.specs.Framing.{seen, Rest, StandsFor, starts, used_up}
 use Rattle.dcc_wire.specs.Half.{class_of}
 use Rattle.dcc_wire.specs.Outcomes.{ones_left}
 
--- the last outcome of a list
+-- the last outcome of the list `outcomes`, or `None` if the list is empty
 unfoldable pub last_outcome : List (ℕ × Seen) → Option (ℕ × Seen)
 last_outcome outcomes = fold (λ last outcome. Some outcome) None outcomes
 
--- the number of half-bits at the end of a list that no outcome uses. The list has `count` half-bits
--- and the given last outcome. The two half-bits of an end bit count as unused.
+-- the number of half-bits at the end of a list that no outcome uses. The list has `count`
+-- half-bits, and its last outcome is given. The two half-bits of an end bit count as unused.
 unfoldable pub unused_after : ℕ → Option (ℕ × Seen) → ℕ
 unused_after count None = count
 unused_after count (Some (place, outcome)) = count - (place + 1) + ones_left outcome
 
--- the number of half-bits that follow the last outcome in a list of `count` half-bits, at most 255.
--- The result is `None` if the last outcome is not a refusal.
+-- the number of half-bits after the last outcome in a list of `count` half-bits, at most 255. If
+-- the last outcome is no refusal, the result is `None`.
 unfoldable pub since_refusal : ℕ → Option (ℕ × Seen) → Option ℕ
 since_refusal count None = None
 since_refusal count (Some (place, Nothing)) = None
 since_refusal count (Some (place, Packet bytes)) = None
 since_refusal count (Some (place, Refused fault)) = Some (min 255 (count - (place + 1)))
 
--- The number of half-bits at the end of a list that no outcome uses, at most 20. An unfinished body
--- uses all its half-bits.
+-- The number of half-bits at the end of `durations` that no outcome uses, at most 20. An unfinished
+-- body uses all its half-bits.
 unfoldable pub unused_at_end : List ℕ → ℕ
 unused_at_end durations =
     let halves = map class_of durations in min 20 (length durations - used_up halves (starts halves))

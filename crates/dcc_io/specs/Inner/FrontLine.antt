@@ -10,8 +10,8 @@ pub record BeginsWithLine (bytes line : List ℕ) : Type 0 where
   pub whole : bytes ≡ line ++ 10 ∷ behind
   pub is_line : IsOneLine line
 
--- `bytes` begin with the valid line `line`, which is neither blank nor a comment, and the line feed
--- that ends it
+-- `bytes` begin with the valid line `line` and its line feed. This line is neither blank nor a
+-- comment.
 pub record IsFrontLine (bytes line : List ℕ) : Type 0 where
   pub begins : BeginsWithLine bytes line
   pub says : is_skipped line ≡ false

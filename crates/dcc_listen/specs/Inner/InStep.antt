@@ -8,8 +8,8 @@ use Rattle.dcc_order.specs.Comparisons.{ComparerRepresents}
 use Rattle.dcc_order.specs.GivenLists.{Lists, with_item}
 use Rattle.dcc_listen.specs.declared.side.Progress.{Progress}
 
--- the comparer `comparer` for decoder `who` has got all packets that were read so far from two
--- sources
+-- the comparer `comparer` for decoder `who` has got all packets that were read from two sources so
+-- far
 pub record TakenInStep (who : Who) (Took OtherTook : List Packet → Progress → Type 0) (progress other : Progress)
     (comparer : Comparer) : Type 0 where
   pub lists : Lists

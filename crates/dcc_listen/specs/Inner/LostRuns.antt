@@ -11,8 +11,8 @@ use Rattle.dcc_capture.specs.HeldRuns.{HoldsLines}
 use Rattle.dcc_listen.specs.LostListing.{IsLostLine}
 
 -- A finder that has read `durations` takes half-bits of `run`. The lines of the packets that are
--- lost in these half-bits are appended to the buffered bytes `held`. If the result is Ok, all
--- half-bits of the run were taken. If the result is an error, a write failed or wrote no byte.
+-- lost in these half-bits are written after the buffered bytes `held`. If the result is Ok, the
+-- finder took all half-bits of `run`. If the result is an error, a write failed or wrote no byte.
 pub record ListsRun (words : Bool) (run : Run) (durations : List ℕ) (finder : LostFinder) (before : WriterState)
     (held : List ℕ) (result : Result (Unit {0}) Failed) (left : List ℕ) (after : WriterState)
     : Type 0 where

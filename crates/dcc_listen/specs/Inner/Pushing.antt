@@ -16,17 +16,17 @@ pub record Pushes (run : Run) (framer : Framer) (shown : Seen) (next : Framer) :
   pub sees : (halves : List ℕ) → StandsFor framer halves
       → seen (halves ++ replicate run.n run.us) ≡ seen halves ++ report_at (length halves + at - 1) shown
 
--- if the result is an outcome, the next run of a capture was read, and `framer` took it. The result
--- is `None` at the end of the capture, or an error of the capture.
+-- if the result is an outcome, the input read the next run of a capture, and `framer` took this
+-- run. The result is `None` at the end of the capture, or an error of the capture.
 abbrev pub PushesNext : InputState → Framer → Result (Option Seen) KeptFault → InputState → Framer → Type 0
 PushesNext old framer (Ok (Some shown)) new next =
     (run : Run) × AnswersRun old (Ok (Some run)) new × Pushes run framer shown next
 PushesNext old framer (Ok None) new next = AnswersRun old (Ok None) new
 PushesNext old framer (Err fault) new next = AnswersRun old (Err fault) new
 
--- if the result is an outcome and a line, the next run of the first of two captures was read on
--- this line, and `framer` took it. The result is `None` at the end of this capture, or an error of
--- this capture.
+-- if the result is a line and an outcome, the input read the next run of the first of two captures
+-- on this line, and `framer` took this run. The result is `None` at the end of the first capture,
+-- or an error of this capture.
 abbrev pub PushesFirst : ℕ → InputState → Framer → Result (Option (ℕ × Seen)) KeptFault → InputState → Framer → Type 0
 PushesFirst before old framer (Ok (Some (line, shown))) new next =
     (run : Run) × AnswersFirst before old (Ok (Some (line, run))) new × Pushes run framer shown next

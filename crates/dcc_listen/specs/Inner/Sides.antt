@@ -12,7 +12,7 @@ use Rattle.dcc_listen.specs.Gathered.{Gathered}
 use Rattle.dcc_listen.specs.Taking.{Gathering}
 
 -- `packets` are the packets that were read from a capture between the states `start` and `now` of
--- its input. If the first argument is true, the capture was read to its end.
+-- its input. If the first argument is true, the whole capture was read.
 abbrev pub SideRead : Bool → InputState → InputState → Framer → List Packet → Type 0
 SideRead false start now framer packets = Gathering start now framer packets
 SideRead true start now framer packets = Gathered start packets now
@@ -31,8 +31,9 @@ pub record HeldTook (start now packets : List Packet) (ended : Bool) : Type 0 wh
   pub whole : start ≡ packets ++ now
   pub all : MayFollow ended now
 
--- after the packets `packets`, the remaining packets of a source were read, which led to
--- `progress`. If `ended` is true, there were no remaining packets.
+-- the packets `packets` of a source were read. Then all its remaining packets were read, and
+-- `progress` is the state of the reading after them. If `ended` is true, there were no remaining
+-- packets.
 pub record TakesRest (Took : List Packet → Progress → Type 0) (packets : List Packet) (ended : Bool)
     (progress : Progress)
     : Type 0 where
@@ -49,7 +50,7 @@ abbrev pub TakesAll : (List Packet → Progress → Type 0) → List Packet → 
 TakesAll Took packets = (progress : Progress) × (progress.ended ≡ true) × Took packets progress
 
 -- one of two sources has the error `fault`, or `fault` is U6 and an allocation failed. Any number
--- of packets of the source without an error was read.
+-- of packets of the other source was read.
 abbrev pub OneStops : (ToolFault → Type 0) → (List Packet → Progress → Type 0) → (ToolFault → Type 0)
     → (List Packet → Progress → Type 0) → ToolFault → Type 0
 OneStops Fails Took OtherFails OtherTook fault =
