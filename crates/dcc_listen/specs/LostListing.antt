@@ -14,8 +14,8 @@ use Rattle.dcc_capture.specs.Listing.{AreLines, numbered_text}
 use Rattle.dcc_capture.specs.Shown.{WritesLinesOfCapture}
 
 -- The text of the refusal that uses the preamble of a lost packet. The last half-bit of the packet
--- has the number `half`, and the refusal ends `since` half-bits before it. Without a refusal the
--- text is empty.
+-- has the number `half`, and the refusal ends `since` half-bits before this half-bit. If there is
+-- no refusal, the text is empty.
 abbrev pub refusal_place_text : ℕ → Option ℕ → List ℕ
 refusal_place_text half None = []
 refusal_place_text half (Some since) = codes " after " ++ decimal (half - since)

@@ -15,8 +15,8 @@ begins_with_two [] p = false
 begins_with_two (q ∷ []) p = false
 begins_with_two (q ∷ r ∷ rest) p = same p q && same p r
 
--- the list `packets` without each own write that two equal packets follow directly. So only the
--- last two of successive equal own writes stay.
+-- the list of packets without each own write that has two copies of itself directly after it. So
+-- only the last two of successive equal own writes stay.
 abbrev pub without_third_copies : List Packet → List Packet
 without_third_copies [] = []
 without_third_copies (p ∷ later) =
@@ -37,12 +37,13 @@ abbrev pub cut : List Packet → Cut
 cut [] = LastBlock []
 cut (p ∷ later) = if is_own_write p then Block [] p (cut later) else in_first_block p (cut later)
 
--- the packets that decoder `who` hears, without third copies of own writes, as a cut list
+-- the packets of the list `packets` that decoder `who` hears, as a cut list. Of successive equal
+-- own writes, only the last two are in this list.
 abbrev pub cut_for : Who → List Packet → Cut
 cut_for who packets = cut (without_third_copies (heard who packets))
 
--- the list `packets` without each packet that equals the packet directly before it. The packet
--- `before` stands before the list.
+-- the list of packets without each packet that equals the packet directly before it. `before` is
+-- the packet before the first packet of the list.
 abbrev pub without_repeats : Option Packet → List Packet → List Packet
 without_repeats before [] = []
 without_repeats before (p ∷ later) =
@@ -52,8 +53,8 @@ without_repeats before (p ∷ later) =
 abbrev pub is_one_of : Packet → Packet → Packet → Bool
 is_one_of p q x = same p x || same q x
 
--- the alternation of packets `p` and `q` in `block`: all their occurrences in order, without
--- repeats
+-- the alternation of packets `p` and `q` in `block`: all occurrences of `p` and `q` in order,
+-- without adjacent repeats
 abbrev pub turns : Packet → Packet → List Packet → List Packet
 turns p q block = without_repeats None (filter (is_one_of p q) block)
 

@@ -14,38 +14,39 @@ use Rattle.dcc_order.specs.AlikeLists.{Cut, LastBlock, Block, cut_for, SameMembe
 use Rattle.dcc_order.specs.Verdicts.{IsVerdictFrom}
 use Rattle.dcc_order.specs.GivenLists.{Lists, IsVerdictOfAll}
 
--- the record of a list before the first heard packet
+-- the `LastHeard` of a list in which no packet was heard
 abbrev pub nothing_heard : LastHeard
 nothing_heard = record { packet = None; is_second = false }
 
--- the record of a list after its next packet `p`: the packet `p`, and true if the packet before `p`
--- equals `p`. The record before `p` is `before`.
+-- the `LastHeard` of a list after one more packet `p`. It stores `p`, and true if the packet before
+-- `p` equals `p`. `before` is the `LastHeard` of the list without `p`.
 abbrev pub heard_next : LastHeard → Packet → LastHeard
 heard_next before p = record { packet = Some p; is_second = is_repeated before.packet p }
 
--- the record of the list `packets`: its last packet, and true if the packet before the last packet
--- equals the last packet
+-- the `LastHeard` of the list `packets`. It stores the last packet, and true if the packet before
+-- the last packet equals the last packet.
 abbrev pub last_heard : List Packet → LastHeard
 last_heard packets = fold heard_next nothing_heard packets
 
--- the cut list that begins with `block`. If there is a write, it ends `block`, and the cut list
--- `rest` follows. If there is no write, `block` is the last block.
+-- the cut list that begins with `block`. If `write` is a packet, it ends `block`, and the cut list
+-- `rest` follows. If `write` is `None`, `block` is the last block.
 abbrev pub cut_then : List Packet → Option Packet → Cut → Cut
 cut_then block None rest = LastBlock block
 cut_then block (Some write) rest = Block block write rest
 
--- the cut list that has only the block `block`, or this block and the write `end` after it
+-- the cut list with one block, `block`. If `end` is a packet, this write ends `block`, and an empty
+-- last block follows.
 abbrev pub open_cut : List Packet → Option Packet → Cut
 open_cut block end = cut_then block end (LastBlock [])
 
--- `verdict` is the verdict on all cut lists that have `left` and `right` as their blocks with
--- number `k`, if all earlier blocks are alike. The write `write` ends the block `left`, and `other`
--- ends `right`. A block without a write is the last block.
+-- Let two cut lists have `left` and `right` as their blocks with number `k`, and let all earlier
+-- blocks be alike. Then `verdict` is the verdict on the cut lists. The write `write` ends the block
+-- `left`, and `other` ends `right`. A block without a write is the last block.
 abbrev pub IsVerdictAtEnds : ℕ → List Packet → Option Packet → List Packet → Option Packet → Verdict → Type 0
 IsVerdictAtEnds k left write right other verdict =
     (lefts rights : Cut) → IsVerdictFrom k (cut_then left write lefts) (cut_then right other rights) verdict
 
--- two blocks end with the same write
+-- both blocks end with a write, and the writes `write` and `other` are equal
 abbrev pub EndAlike : Option Packet → Option Packet → Type 0
 EndAlike (Some write) (Some other) = write ≡ other
 EndAlike (Some write) None = ⊥
@@ -58,8 +59,8 @@ BlocksDiffer k left right verdict =
     (¬ SameMembers left right × (verdict ≡ Members k))
     ⊎ (SameMembers left right × ¬ SameOrder left right × (verdict ≡ Order k))
 
--- the cut lists `x` and `y` begin with `k` alike blocks, and equal writes end these blocks. After
--- these blocks, the cut lists `u` and `w` follow.
+-- the cut lists `x` and `y` begin with `k` blocks that are alike, and equal writes end these
+-- blocks. The cut lists `u` and `w` are the remaining parts of `x` and `y`.
 abbrev pub AlikeUpTo : ℕ → Cut → Cut → Cut → Cut → Type 0
 AlikeUpTo zero x y u w = (x ≡ u) × (y ≡ w)
 AlikeUpTo (suc k) (Block left write x) (Block right other y) u w =
@@ -67,8 +68,8 @@ AlikeUpTo (suc k) (Block left write x) (Block right other y) u w =
 AlikeUpTo (suc k) (LastBlock left) y u w = ⊥
 AlikeUpTo (suc k) (Block left write x) (LastBlock right) u w = ⊥
 
--- the comparison `c` stores the last packet of each of the two `lists` that its decoder heard. The
--- two blocks that `c` stores are not longer than the lists.
+-- for each of the two `lists`, the comparison `c` stores the last packet that its decoder heard.
+-- The two blocks that `c` stores are not longer than the lists.
 pub record GoesOn (c : Comparison) (lists : Lists) : Type 0 where
   pub left_heard : c.left_heard ≡ last_heard (heard c.who lists.left)
   pub right_heard : c.right_heard ≡ last_heard (heard c.who lists.right)

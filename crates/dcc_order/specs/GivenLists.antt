@@ -9,8 +9,8 @@ use Rattle.dcc_order.specs.declared.wants.Wants.TheVariants.{Left, Right, Done}
 use Rattle.dcc_order.specs.AlikeLists.{Cut, LastBlock, Block, cut_for}
 use Rattle.dcc_order.specs.Verdicts.{IsVerdict}
 
--- the parts of two lists that a comparer has got: a prefix of each list, and true for each list
--- whose end the comparer has got
+-- the parts of two lists that a comparer has got. Each part is a prefix of its list. `left_ended`
+-- and `right_ended` are true if the comparer has got the end of the list.
 pub record Lists : Type 0 where
   pub left : List Packet
   pub left_ended : Bool
@@ -20,8 +20,8 @@ pub record Lists : Type 0 where
 abbrev pub no_lists : Lists
 no_lists = record { left = []; left_ended = false; right = []; right_ended = false }
 
--- `lists` after the comparer got one more item of the list that it waits for: a packet, or `None`
--- for the end of the list
+-- `lists` after the comparer got the next item of the list that it waits for. The item is a packet,
+-- or `None` for the end of the list.
 abbrev pub with_item : Wants → Option Packet → Lists → Lists
 with_item Left (Some p) lists = record lists { left = lists.left ++ p ∷ [] }
 with_item Left None lists = record lists { left_ended = true }
@@ -41,21 +41,20 @@ IsVerdictOfAll who lists verdict =
     (lefts rights : List Packet) → MayFollow lists.left_ended lefts → MayFollow lists.right_ended rights →
     IsVerdict who (lists.left ++ lefts) (lists.right ++ rights) verdict
 
--- the number of own writes in a cut list
+-- the number of own writes in a cut list, which is the number of its blocks minus one
 abbrev pub writes_in : Cut → ℕ
 writes_in (LastBlock block) = 0
 writes_in (Block block write rest) = suc (writes_in rest)
 
--- the length of block `k` of a cut list, or 0 if there is no such block
+-- the number of packets in block `k` of a cut list, or 0 if there is no such block
 abbrev pub block_len : ℕ → Cut → ℕ
 block_len zero (LastBlock block) = length block
 block_len zero (Block block write rest) = length block
 block_len (suc k) (LastBlock block) = 0
 block_len (suc k) (Block block write rest) = block_len k rest
 
--- the number of packets in block `k` of the cut list `left`, plus the number of packets in block
--- `k` of the cut list `right`. The number `k` is the number of own writes in the cut list that has
--- fewer own writes.
+-- the number `block_len k left + block_len k right` of packets in the blocks with number `k`. `k`
+-- is the number of own writes in the cut list that has fewer own writes.
 abbrev pub open_blocks_len : Cut → Cut → ℕ
 open_blocks_len left right = let k = min (writes_in left) (writes_in right) in block_len k left + block_len k right
 

@@ -10,13 +10,13 @@ use Rattle.dcc_packet.specs.Spelling.{spelling}
 use Rattle.dcc_regs.specs.declared.register.Who.{Who}
 use Rattle.dcc_regs.specs.Result.{RegisterMap, HasHeard}
 
--- a list with the frame of an outcome, or an empty list if the outcome is no packet
+-- a list with the frame of an outcome that is a packet. For any other outcome, the list is empty.
 abbrev pub frames_of : Seen → List (List ℕ)
 frames_of Nothing = []
 frames_of (PacketSeen frame) = frame ∷ []
 frames_of (Refused fault) = []
 
--- the frames of all packets among a list of outcomes
+-- the frames of all packets in a list of outcomes
 abbrev pub frames_among : List (ℕ × Seen) → List (List ℕ)
 frames_among [] = []
 frames_among (at ∷ later) = frames_of at.1 ++ frames_among later
@@ -29,8 +29,8 @@ AreSpelled packets frames = map spelling packets ≡ frames
 abbrev pub ArePackets : List Packet → List ℕ → Type 0
 ArePackets packets halves = AreSpelled packets (frames_among (seen halves))
 
--- a decoder with identity `who` and registers `start` has heard the packets in the half-bits
--- `halves`. It then has the identity `who'` and the registers `now`.
+-- between the registers `start` and `now`, a decoder with identity `who` has heard the packets in
+-- the half-bits `halves`. Its identity `who'` after these half-bits is the identity before them.
 pub record HasHeardHalves (halves : List ℕ) (who : Who) (start : RegisterMap) (who' : Who) (now : RegisterMap) : Type 0
   where
     pub packets : List Packet

@@ -43,7 +43,7 @@ pub record AreHeld (places : List Place) (count : ℕ) (others : List ℕ) : Typ
   pub second_numbered : Numbered (members_at places count) others
 
 -- packet number `own` and each conflicting packet with a lower number alternate in the same way in
--- both blocks
+-- both blocks. `places` and `others` have the numbers of the packets of the two blocks.
 abbrev pub NumberedAlike : List Place → List ℕ → ℕ → Type 0
 NumberedAlike places others own =
     (rival : ℕ) (d e : Place) → rival < own

@@ -30,8 +30,8 @@ pub record WasGivenFronts (who : Who) (left right : List Packet) (c : Comparison
 unfoldable pub IsInStep : Who → List Packet → List Packet → Comparison → Type 0
 IsInStep who left right c = WasGivenFronts who left right c
 
--- a number that falls when a comparer gets the end of a list. The number is 2 if the comparer waits
--- for the left list, 1 if the comparer waits for the right list, and 0 if it has a verdict.
+-- a number that falls when a comparer gets the end of a list: 2 if the comparer waits for the left
+-- list, 1 if it waits for the right list, and 0 if it has a verdict
 abbrev pub ends_wanted : Wants → ℕ
 ends_wanted Left = 2
 ends_wanted Right = 1

@@ -22,8 +22,8 @@ LeaveTheSame who left right =
 abbrev pub AlikeListsLeaveTheSame : Type 0
 AlikeListsLeaveTheSame = (who : Who) (left right : List Packet) → AlikeFor who left right → LeaveTheSame who left right
 
--- the packets of a cut list from its start to the end of block `k`, with the own writes between the
--- blocks. If there is no block `k`, the result is all packets of the list.
+-- all packets of a cut list from its start to the end of block `k`, including the own writes
+-- between these blocks. If there is no block `k`, the result is all packets of the list.
 abbrev pub through_block : ℕ → Cut → List Packet
 through_block k (LastBlock block) = block
 through_block zero (Block block write rest) = block

@@ -81,8 +81,8 @@ MeasuringChangesNoDecoder =
     → HasHeardHalves (before ++ measured ++ after) who start who' now
     ↔ HasHeardHalves (before ++ halves_of_sent sent ++ after) who start who' now
 
--- the half-bits of the packets `earlier`, and then of three copies of the packet `copy`, of which
--- `noise` replaces one. `copies` copies come before the noise, and `more` copies come after it.
+-- the half-bits of the packets `earlier`, and then of three copies of the packet `copy`, one of
+-- which `noise` replaces. There are `copies` copies before the noise and `more` copies after it.
 abbrev pub copies_around_noise : List SentPacket → SentPacket → ℕ → ℕ → List ℕ → List ℕ
 copies_around_noise earlier copy copies more noise =
     halves_of_sent (earlier ++ replicate copies copy) ++ noise ++ halves_of_sent (replicate more copy)

@@ -7,15 +7,15 @@ use Rattle.dcc_regs.specs.Writes.{is_own_write}
 use Rattle.dcc_regs.specs.Heard.{hears, heard}
 use Rattle.dcc_order.specs.AlikeLists.{Cut, LastBlock, Block, cut_for}
 
--- true if a list of packets ends with two packets that equal `p`
+-- true if the last two packets of a list equal `p`
 abbrev pub ends_with_two : List Packet → Packet → Bool
 ends_with_two [] p = false
 ends_with_two (q ∷ []) p = false
 ends_with_two (q ∷ r ∷ []) p = same p q && same p r
 ends_with_two (q ∷ r ∷ s ∷ later) p = ends_with_two (r ∷ s ∷ later) p
 
--- a cut list after one more packet `p`: an own write ends the last block, and any other packet is
--- added to the last block
+-- a cut list after one more packet `p`. If `p` is an own write, it ends the last block, and an
+-- empty block follows. Any other packet is added to the last block.
 abbrev pub cut_more : Cut → Packet → Cut
 cut_more (LastBlock block) p = if is_own_write p then Block block p (LastBlock []) else LastBlock (block ++ p ∷ [])
 cut_more (Block block write rest) p = Block block write (cut_more rest p)
@@ -31,9 +31,9 @@ OneMorePacket = (who : Who) (packets : List Packet) (p : Packet) →
     (cut_for who packets) p)
     else cut_for who packets)
 
--- the first cut list is a prefix of the second cut list: both have the same blocks and writes up to
--- the end of the first cut list. In the second cut list, the last block of the first cut list can
--- be longer, and more blocks can follow.
+-- the first cut list is a prefix of the second cut list. Both lists have the same blocks and writes
+-- before the last block of the first list. The second list can have more packets in this block, and
+-- more blocks after it.
 abbrev pub GoesOnAs : Cut → Cut → Type 0
 GoesOnAs (LastBlock block) (LastBlock longer) = (more : List Packet) × (longer ≡ block ++ more)
 GoesOnAs (LastBlock block) (Block longer write rest) = (more : List Packet) × (longer ≡ block ++ more)

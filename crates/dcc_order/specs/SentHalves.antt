@@ -12,14 +12,14 @@ use Rattle.dcc_order.specs.OneMoreHalf.{StandsForOneMore, ShowsAtOneMore}
 unfoldable pub HasHeardAll : List Sent → Rest → Type 0
 HasHeardAll frames framer = AllFrames frames × StandsFor framer (sent_all frames)
 
--- the last outcome of a list, or the earlier outcome `before` if the list is empty
+-- the last outcome of a list. If the list is empty, the result is the earlier outcome `before`.
 abbrev pub last_seen : Seen → List (ℕ × Seen) → Seen
 last_seen before [] = before
 last_seen before (at ∷ later) = last_seen at.1 later
 
--- after the half-bits `track`, `framer` has taken all half-bits of `halves` except the last
--- half-bits `left`. The last outcome among the taken half-bits of `halves` is `kept`, or `Nothing`
--- if they have no outcome.
+-- after the half-bits `track`, `framer` has taken the half-bits of `halves`, except the last
+-- half-bits `left`. `kept` is the last outcome of the taken half-bits of `halves`. If these
+-- half-bits have no outcome, `kept` is `Nothing`.
 pub record HasComeBehind (track halves left : List ℕ) (framer : Rest) (kept : Seen) : Type 0 where
   pub come : List ℕ
   pub parts : come ++ left ≡ halves

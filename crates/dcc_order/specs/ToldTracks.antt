@@ -14,14 +14,15 @@ use Rattle.dcc_regs.specs.Result.{RegisterMap, HasHeard, step}
 use Rattle.dcc_order.specs.Hearing.{ArePackets, HasHeardHalves}
 use Rattle.dcc_order.specs.OneMoreHalf.{StandsForOneMore, ShowsAtOneMore}
 
--- a listener was notified of each packet of a list in order, by the callback for its kind. The
--- callbacks changed the listener from `old` to `now`.
+-- a listener was notified of each packet of a list in order, by the callback for the kind of the
+-- packet. These callbacks changed the listener from `old` to `now`. `told` says how a callback
+-- changes a listener.
 abbrev pub IsTold : {L : Type 0} → (L → Note → L → Type 0) → List Packet → L → L → Type 0
 IsTold told [] old now = now ≡ old
 IsTold {L} told (p ∷ later) old now = (between : L) × told old (note_of p) between × IsTold told later between now
 
--- a framer took the half-bits `halves`, and the decoder heard the packets in these half-bits. The
--- listener was notified of the packets that the decoder hears.
+-- `framer` took the half-bits `halves`, and the decoder heard the packets in these half-bits. The
+-- listener was notified of those packets that the decoder hears.
 pub record WereHeardAndTold {L : Type 0} (told : L → Note → L → Type 0) (halves : List ℕ) (framer : Rest) (who : Who)
     (start : RegisterMap) (who' : Who) (now : RegisterMap) (listener listener' : L) : Type 0 where
   pub stands : StandsFor framer halves

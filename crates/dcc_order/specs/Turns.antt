@@ -6,7 +6,7 @@ use Rattle.std.specs.Prelude.{fold, length, if◌then◌else◌}
 use Rattle.dcc_packet.specs.declared.packet.Packet.{Packet}
 use Rattle.dcc_order.specs.declared.turns.Turns.{Turns}
 
--- the last packet of a list, or `before` if the list is empty
+-- the last packet of a list. If the list is empty, the result is `before`.
 abbrev pub last_behind : Option Packet → List Packet → Option Packet
 last_behind before [] = before
 last_behind before (p ∷ later) = last_behind (Some p) later
@@ -26,16 +26,16 @@ own_turn taken =
 abbrev pub rival_turn : Turns → Turns
 rival_turn taken = if taken.rival_last then taken else record { count = taken.count + 1; rival_last = true }
 
--- the alternation `taken` of packets number `own` and `rival` after an occurrence of packet
--- `number`
+-- the alternation `taken` of the packets with the numbers `own` and `rival`, after an occurrence of
+-- the packet with the number `number`
 abbrev pub with_turn : ℕ → ℕ → Turns → ℕ → Turns
 with_turn own rival taken number =
     if number == own then own_turn taken
     else if number == rival then rival_turn taken
     else taken
 
--- the alternation of packet number `own` and packet number `rival` in a block, whose packets have
--- the numbers `numbers`
+-- the alternation of the packets with the numbers `own` and `rival` in a block. `numbers` are the
+-- numbers of all packets of this block, in order.
 abbrev pub turns_of : ℕ → ℕ → List ℕ → Turns
 turns_of own rival numbers = fold (with_turn own rival) no_turns numbers
 
@@ -45,8 +45,8 @@ pub record Started (turns : List Turns) (count : ℕ) : Type 0 where
   pub each : length turns ≡ count
   pub none : (rival : ℕ) (d : Turns) → rival < length turns → slice_index_or turns rival d ≡ no_turns
 
--- `turns` has `count` elements, one for each rival: the alternation of packet number `own` and this
--- rival in a block, whose packets have the numbers `numbers`
+-- `turns` has `count` elements, one for each rival. Each element is the alternation of packet
+-- number `own` and this rival in a block, whose packets have the numbers `numbers`.
 pub record Counted (turns : List Turns) (own count : ℕ) (numbers : List ℕ) : Type 0 where
   pub each : length turns ≡ count
   pub told : (rival : ℕ) (d : Turns) → rival < length turns → slice_index_or turns rival d ≡ turns_of own rival numbers

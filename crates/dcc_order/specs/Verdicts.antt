@@ -7,14 +7,14 @@ use Rattle.dcc_order.specs.declared.verdict.Verdict.TheVariants.{Alike, Writes, 
 use Rattle.dcc_order.specs.AlikeLists.{Cut, LastBlock, Block, cut_for, SameMembers, SameOrder}
 
 -- `verdict` names the difference of the blocks `left` and `right`, which have number `k`. If the
--- blocks do not differ, `further` holds.
+-- blocks are alike, the property `further` holds.
 abbrev pub BlocksVerdict : ℕ → List Packet → List Packet → Verdict → Type 0 → Type 0
 BlocksVerdict k left right verdict further =
     (¬ SameMembers left right × (verdict ≡ Members k))
     ⊎ ((SameMembers left right × ¬ SameOrder left right × (verdict ≡ Order k))
     ⊎ (SameMembers left right × SameOrder left right × further))
 
--- `verdict` is the verdict on two cut lists whose first blocks have number `k`
+-- `verdict` is the verdict on two cut lists. The first block of each list has number `k`.
 abbrev pub IsVerdictFrom : ℕ → Cut → Cut → Verdict → Type 0
 IsVerdictFrom k (LastBlock left) (LastBlock right) verdict = BlocksVerdict k left right verdict (verdict ≡ Alike)
 IsVerdictFrom k (Block left write lefts) (Block right other rights) verdict =

@@ -22,8 +22,8 @@ abbrev pub no_more_words : List Word → Result (Unit {0}) PacketFault
 no_more_words [] = Ok tt
 no_more_words (word ∷ rest) = Err faults.Word
 
--- the result `read` of a parser is the value `x` together with the unparsed words `rest`, or the
--- error `fault`
+-- the result `read` of a parser is the value `x` and the unparsed words `rest`, or the error
+-- `fault`
 abbrev pub ParsesAs : {A : Type 0} → Result (A × List Word) PacketFault → Result A PacketFault → List Word → Type 0
 ParsesAs read (Ok x) rest = read ≡ Ok (x, rest)
 ParsesAs read (Err fault) rest = read ≡ Err fault
@@ -78,8 +78,8 @@ pub record IsToken (word : Word) : Type 0 where
 abbrev pub is_keyword : Word → Bool
 is_keyword word = nat_le 1 (length word) && nat_le (length word) 12 && list_all is_plain word
 
--- the words that `field` writes for a value can be written in a line. If `rest` follows the written
--- words, `field` parses the written words as this value and returns `rest`.
+-- the words that `field` writes for a value can be written in a line. Let any words `rest` follow
+-- the written words. Then `field` parses the written words as this value, and returns `rest`.
 pub record IsReadBack {A : Type 0} (field : FieldOf A) : Type 0 where
   pub back : (x : A) (rest : List Word) → field.Fits x → field.read (field.written x ++ rest) ≡ Ok (x, rest)
   pub tokens : (x : A) → field.Fits x → AllByRecursion IsToken (field.written x)

@@ -15,10 +15,10 @@ use Rattle.dcc_packet.specs.Fields.{FieldOf, IsToken, is_keyword, no_more_words}
 pub record FormOf (A B : Type 0) : Type 0 where
   -- the word before the field
   pub keyword : Word
-  -- the value that a line of this form means if its field has a given value
+  -- the value that a line of this form means, if the field of the line has a given value
   pub says : B → A
-  -- the value of the field in the line that means a given value, or `None` if no line of this form
-  -- means the given value
+  -- the value of the field in the line that means a given value. If no line of this form means this
+  -- value, the result is `None`.
   pub said : A → Option B
 
 -- a form together with its field, which is a row of a table of forms
@@ -29,8 +29,8 @@ pub record RowOf (A : Type 0) : Type 1 where
   -- the value that the words after the keyword mean, together with the words after the field, or
   -- the first error
   pub read : List Word → Result (A × List Word) PacketFault
-  -- the words after the keyword in the line that means a given value, or `None` if no line of this
-  -- form means the given value
+  -- the words after the keyword in the line that means a given value. If no line of this form means
+  -- this value, the result is `None`.
   pub written : A → Option (List Word)
 
 -- the row that consists of `form` and its field `fields`
@@ -44,9 +44,9 @@ row fields form = record {
   written = λ value. option_map fields.written (form.said value);
 }
 
--- the value of a line that consists of the keyword `word` and then `words`, together with the words
--- after the field of the line. The first row of the table with this keyword parses the line. If no
--- row has the keyword, the result is the error P10.
+-- the value of a line that consists of the keyword `word` and then `words`, and the words after the
+-- field of the line. The first row of the table with this keyword parses the line. If no row has
+-- this keyword, the result is the error P10.
 abbrev pub read_by : {A : Type 0} → List (RowOf A) → Word → List Word → Result (A × List Word) PacketFault
 read_by [] word words = Err faults.Word
 read_by (form ∷ forms) word words = if is_word word form.keyword then form.read words else read_by forms word words
@@ -66,7 +66,7 @@ written_by [] value = []
 written_by (form ∷ forms) value =
     option_map_or (λ words. form.keyword ∷ words) (form.written value) (written_by forms value)
 
--- the value that a line means, together with the words after its field. The first row of the table
+-- the value that a line means, and the words after its field. The first row of the table `forms`
 -- whose keyword is the first word of the line parses the line.
 abbrev pub read_line_by : {A : Type 0} → List (RowOf A) → List Word → Result (A × List Word) PacketFault
 read_line_by forms [] = Err faults.Word
@@ -84,8 +84,9 @@ pub record IsForm {A B : Type 0} (form : FormOf A B) : Type 0 where
   pub token : is_keyword form.keyword ≡ true
   pub back : (value : A) (x : B) → form.said value ≡ Some x → form.says x ≡ value
 
--- the words that the row `form` writes for a value can be written in a line. If `rest` follows the
--- written words, the row parses the written words as this value and returns `rest`.
+-- the words that the row `form` writes for a value can be written in a line. Let any words `rest`
+-- follow the written words. Then the row parses the written words as this value, and returns
+-- `rest`.
 pub record IsRowBack {A : Type 0} (form : RowOf A) : Type 0 where
   pub keyword : IsToken form.keyword
   pub back : (value : A) (words rest : List Word) → form.Fits value → form.written value ≡ Some words

@@ -52,8 +52,8 @@ small_number word = do
   n ← number word
   if nat_le n 255 then Ok n else Err faults.Number
 
--- the address that a word TO means: `all`, or `s` (code 115) or `l` (code 108) followed by a
--- number. The result is an error if the word means no address.
+-- the address that a word TO means. The word is `all`, or `s` (code 115) or `l` (code 108) and then
+-- a number. For any other word, the result is an error.
 abbrev pub address : Word → Result Address PacketFault
 address word =
     if is_word word (codes "all") then Ok Broadcast
@@ -135,7 +135,7 @@ switch word =
 abbrev pub signal_number : Word → Result SignalAddress PacketFault
 signal_number word = number word >>= signal_of
 
--- the bytes of a frame, or the error P12 if there is no frame
+-- the bytes of a frame. If there is no frame, the result is the error P12.
 abbrev pub frame_or_fault : Result Frame FrameFault → Result (List ℕ) PacketFault
 frame_or_fault (Ok frame) = Ok frame
 frame_or_fault (Err fault) = Err faults.Frame
@@ -144,8 +144,8 @@ abbrev pub framed_bytes : Result (List ℕ) FromHexError → Result (List ℕ) P
 framed_bytes (Ok bytes) = frame_or_fault (frame_of bytes)
 framed_bytes (Err fault) = Err faults.Frame
 
--- the bytes of the frame in a word HEX, which has two hexadecimal digits of either case for each
--- byte
+-- the bytes of the frame in a word HEX. The word has two hexadecimal digits for each byte, in upper
+-- or lower case.
 abbrev pub hex_frame : Word → Result (List ℕ) PacketFault
 hex_frame word = framed_bytes (decode_of word)
 

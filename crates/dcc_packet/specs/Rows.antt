@@ -52,8 +52,8 @@ function_bytes F53 bits = 0xDB ∷ bits ∷ []
 -- 11011100 DDDDDDDD
 function_bytes F61 bits = 0xDC ∷ bits ∷ []
 
--- 1110KKVV VVVVVVVV and the byte `last`: KK comes from `kind`, and V is the CV number less 1, so
--- that it is 0 for CV1
+-- 1110KKVV VVVVVVVV and the byte `last`. KK comes from `kind`, and V is `cv - 1`, so that V is 0
+-- for CV1.
 abbrev pub cv_bytes : ℕ → ℕ → ℕ → List ℕ
 cv_bytes kind cv last = (kind + (cv - 1) / 256) ∷ ((cv - 1) % 256) ∷ last ∷ []
 

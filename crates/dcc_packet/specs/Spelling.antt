@@ -10,7 +10,7 @@ use Rattle.dcc_packet.specs.declared.packet.Packet.TheVariants.{Idle, Loco, Acce
 use Rattle.dcc_packet.specs.Rows.{idle_bytes, loco_bytes, accessory_bytes, signal_bytes}
 
 -- the frame of a packet: the bytes of its row of the table and their error byte. An `Other` packet
--- fits no row, and contains its frame.
+-- fits no row, and has its own frame.
 abbrev pub spelling : Packet → List ℕ
 spelling Idle = with_error_byte idle_bytes
 spelling (Loco to what) = with_error_byte (loco_bytes to what)
@@ -18,7 +18,7 @@ spelling (Accessory board output on) = with_error_byte (accessory_bytes board ou
 spelling (Signal address aspect) = with_error_byte (signal_bytes address aspect)
 spelling (Other other) = other.frame
 
--- an instruction has no CV value, or its CV value is below 256
+-- the instruction has no CV value, or its CV value is below 256
 abbrev pub ValueFits : What → Type 0
 ValueFits Reset = Unit {0}
 ValueFits (Speed28 forward bits) = Unit {0}
@@ -30,8 +30,8 @@ ValueFits (CvVerify cv value) = value < 256
 ValueFits (CvBitWrite cv place one) = Unit {0}
 ValueFits (CvBitVerify cv place one) = Unit {0}
 
--- each number in the packet that is sent as a byte is below 256. The bound holds for each `Packet`
--- of a program, since these numbers have the type `u8` in a program.
+-- each number in the packet that is sent as a byte is below 256. This holds for each `Packet` of a
+-- program, because these numbers have the type `u8` there.
 abbrev pub BytesFit : Packet → Type 0
 BytesFit Idle = Unit {0}
 BytesFit (Loco to what) = ValueFits what

@@ -17,16 +17,16 @@ abbrev pub changed_cv : CvChange → CvNumber
 changed_cv (Byte cv value) = cv
 changed_cv (OneBit cv place one) = cv
 
--- the CV that a locomotive decoder with the active address `active` and the pending write `pending`
--- accesses when it applies packet `p`. If `p` is a write that takes effect, this is the CV of `p`.
--- The result is `None` for all other packets, which need only CV29.
+-- the CV that a locomotive decoder accesses when it applies packet `p`. The decoder has the active
+-- address `active` and the pending write `pending`. If `p` is a write that takes effect, the result
+-- is the CV of `p`. For any other packet the result is `None`, because the decoder needs only CV29.
 abbrev pub accessed_cv : Option Address → Option Packet → Packet → Option CvNumber
 accessed_cv active pending p =
     if hears (LocoWho active) p && is_effective (Some (PendingValue pending)) p then option_map changed_cv (change_of p)
     else None
 
--- The list `cvs` has the values of all CVs of a decoder: CV29 has the value `cv29`, and the CV
--- `cv`, if it is not `None`, has the value `value`.
+-- The list `cvs` has the values of all CVs of a decoder. CV29 has the value `cv29`. If `cv` is not
+-- `None`, the CV `cv` has the value `value`.
 pub record AreStored (cvs : List ℕ) (cv29 : ℕ) (cv : Option CvNumber) (value : ℕ) : Type 0 where
   pub all : IsCvs cvs
   pub mode : cv_in cvs 29 ≡ cv29

@@ -16,8 +16,8 @@ use Rattle.dcc_packet.specs.declared.packet.Packet.TheVariants.{Idle, Loco as To
 use Rattle.dcc_regs.specs.declared.register.Who.{Who}
 use Rattle.dcc_regs.specs.declared.register.Who.TheVariants.{Loco, Board}
 
--- true if a frame is for a locomotive decoder with the active address `active`: it begins with 0, the
--- broadcast, or with the bytes of the address
+-- true if a frame is for a locomotive decoder with the active address `active`. The frame then
+-- begins with the byte 0, which is the broadcast address, or with the bytes of `active`.
 unfoldable pub is_sent_to : Option Address → List ℕ → Bool
 is_sent_to active frame =
     slice_index frame 0 == 0 || option_map_or (λ own. starts_with ◌==◌ frame (address_bytes own)) active false
@@ -32,8 +32,8 @@ frame_address bytes =
     else if nat_le 192 first && nat_le first 231 then result_ok (long_of ((first - 192) * 256 + slice_index bytes 1))
     else None
 
--- the address of locomotive decoders to which a packet is sent, or `None` if the packet has no such
--- address
+-- the address of locomotive decoders to which a packet is sent. If the packet has no such address,
+-- the result is `None`.
 abbrev pub address_of : Packet → Option Address
 address_of (ToLoco to what) = Some to
 address_of (Other frame) = frame_address frame.frame

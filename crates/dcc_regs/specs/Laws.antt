@@ -22,8 +22,8 @@ use Rattle.dcc_regs.specs.Result.{RegisterMap, HasHeard, result, step}
 use Rattle.dcc_regs.specs.Notes.{Note, note_of, packet_told}
 use Rattle.dcc_regs.specs.Setting.{mode_in, set_from, value_over}
 
--- the result of the list `first ++ second` can be computed in two steps. The result of `second`
--- then starts with the registers that are the result of `first`.
+-- the result of the list `first ++ second` can be computed in two steps: it is `result who (result
+-- who start first) second`
 abbrev pub ResultInParts : Type 0
 ResultInParts =
     (who : Who) (start : RegisterMap) (first second : List Packet)
@@ -33,8 +33,7 @@ ResultInParts =
 abbrev pub NoPacketHeard : Type 0
 NoPacketHeard = (who : Who) (start : RegisterMap) → HasHeard [] who start who start
 
--- a decoder that has heard a list `l` and then one more packet `p` has heard the list with `p` at
--- its end
+-- if a decoder has heard a list `l`, and then one more packet `p`, it has heard `l` followed by `p`
 abbrev pub OneMorePacketHeard : Type 0
 OneMorePacketHeard =
     (l : List Packet) (p : Packet) (who who' who'' : Who) (start now after : RegisterMap)
@@ -48,15 +47,16 @@ BoardsTakePackets =
     (who : Who) (p : Packet) (d d' : BoardContent) (is_heard : Bool) → is_heard ≡ hears who p → is_heard ≡ true
     → TakesPacket p d d' → board_registers d' ≡ step who (board_registers d) p
 
--- each content of an accessory decoder is possible if its number is at most 510 and all its aspects
--- are bytes
+-- if an accessory decoder has a number of at most 510, and all its aspects are bytes, its identity
+-- and its registers are possible
 abbrev pub BoardsArePossible : Type 0
 BoardsArePossible =
     (board : OwnBoard) (d : BoardContent) → nat_le board.number 510 ≡ true → ((n : ℕ) → d.aspects n < 256)
     → IsPossible (BoardWho board) (board_registers d)
 
--- a packet that a decoder hears sets each register for which `set_from` has a value to this value,
--- and changes no other register. A packet that it does not hear changes no register.
+-- let a decoder get a packet. If the decoder hears the packet, each register for which `set_from`
+-- has a value gets this value, and no other register changes. If the decoder does not hear the
+-- packet, no register changes.
 abbrev pub StepSets : Type 0
 StepSets =
     (who : Who) (start : RegisterMap) (p : Packet) (r : Register)

@@ -59,8 +59,8 @@ is_speed_instruction x = false
 abbrev pub told_if : Bool → Address → What → Option Packet
 told_if of_its_kind to what = if of_its_kind then Some (ToLoco to what) else None
 
--- the packet of which a callback notifies, or `None` if the callback has an instruction for which a
--- listener has another callback
+-- the packet of which a callback notifies. If a listener has another callback for the instruction
+-- of this callback, the result is `None`.
 abbrev pub packet_told : Note → Option Packet
 packet_told IdleCall = Some Idle
 packet_told (ResetCall to) = Some (ToLoco to Reset)

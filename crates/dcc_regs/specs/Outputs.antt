@@ -12,14 +12,15 @@ out_set (ToLoco to what) n = if is_full_reset to what && nat_le n 7 then Some fa
 out_set (Accessory board output on) n = if n == output.number then Some on else None
 out_set x n = None
 
--- the side to which a packet sets pair `n` of outputs, true for side 1, or `None` if the packet
--- does not set pair `n`. A packet that turns an output on sets the pair of this output to its side.
+-- the side to which a packet sets pair `n` of outputs, true for side 1. A packet that turns an
+-- output on sets the pair of this output to the side of this output. Any other packet sets no pair,
+-- and the result is `None`.
 abbrev pub position_set : Packet → ℕ → Option Bool
 position_set (Accessory board output true) n = if n == output.number / 2 then Some (output.number % 2 == 1) else None
 position_set x n = None
 
--- the aspect to which a packet sets signal `n` of an accessory decoder that hears the packet, or
--- `None` if the packet does not set signal `n`
+-- the aspect to which a packet sets signal `n` of an accessory decoder that hears the packet. If
+-- the packet does not set signal `n`, the result is `None`.
 abbrev pub aspect_set : Packet → ℕ → Option ℕ
 aspect_set (Signal address aspect) n =
     if (address.number == 2047 && nat_le n 3) || n == address.number % 4 then Some aspect else None

@@ -10,9 +10,9 @@ abbrev pub preamble_cause : ℕ → Option ShortPreamble → List ℕ
 preamble_cause half None = []
 preamble_cause half (Some preamble) = preamble_text half preamble
 
--- the text of the half-bits `off` outside the limits. The text begins with the word `name`, and
--- with a comma and a space before it if `has_cause` is true. If there are no such half-bits, there
--- is no text.
+-- the text of the half-bits `off` outside the limits, or no text if there are no such half-bits.
+-- The text begins with the word `name`. If `has_cause` is true, a comma and a space come before
+-- this word.
 abbrev pub cause_behind : Bool → List ℕ → Option OffLimits → List ℕ
 cause_behind has_cause name None = []
 cause_behind has_cause name (Some off) = (if has_cause then codes ", " else []) ++ off_limits_text name off

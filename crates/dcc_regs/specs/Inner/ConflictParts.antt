@@ -28,8 +28,8 @@ pub record DifferIn (mode : SpeedMode) (p q : Packet) : Type 0 where
 abbrev pub meets : Address → Address → Bool
 meets a b = is_for (Some a) b || is_for (Some b) a
 
--- the number of the accessory decoder that hears a packet, 511 if all accessory decoders hear it,
--- or `None` if no accessory decoder hears it
+-- the number of the accessory decoder that hears a packet. The number is 511 if all accessory
+-- decoders hear the packet. If no accessory decoder hears the packet, the result is `None`.
 abbrev pub board_of_packet : Packet → Option ℕ
 board_of_packet (ToLoco to what) = if is_full_reset to what then Some 511 else None
 board_of_packet (Accessory board output on) = Some board.number
