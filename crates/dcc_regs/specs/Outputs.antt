@@ -5,16 +5,16 @@ use Rattle.dcc_packet.specs.declared.packet.Packet.{Packet}
 use Rattle.dcc_packet.specs.declared.packet.Packet.TheVariants.{Loco as ToLoco, Accessory, Signal}
 use Rattle.dcc_regs.specs.Heard.{is_full_reset}
 
--- the value to which a packet sets output `n`, true for on, or `None` if the packet does not set
--- output `n`
+-- the value to which a packet sets output `n`, true for on. If the packet does not set output `n`,
+-- the result is `None`.
 abbrev pub out_set : Packet → ℕ → Option Bool
 out_set (ToLoco to what) n = if is_full_reset to what && nat_le n 7 then Some false else None
 out_set (Accessory board output on) n = if n == output.number then Some on else None
 out_set x n = None
 
--- the side to which a packet sets pair `n` of outputs, true for side 1. A packet that turns an
--- output on sets the pair of this output to the side of this output. Any other packet sets no pair,
--- and the result is `None`.
+-- the side to which a packet sets pair `n` of outputs, true for side 1. If the packet does not set
+-- pair `n`, the result is `None`. Only a packet that turns an output on sets a pair: it sets the
+-- pair of this output to the side of this output.
 abbrev pub position_set : Packet → ℕ → Option Bool
 position_set (Accessory board output true) n = if n == output.number / 2 then Some (output.number % 2 == 1) else None
 position_set x n = None

@@ -21,8 +21,8 @@ abbrev pub is_decoder : Who → Bool
 is_decoder (LocoWho active) = is_active active
 is_decoder (BoardWho own) = nat_le own.number 510
 
--- true if register `r` of a decoder can have the given value. The value `None` means that the
--- decoder does not have the register.
+-- true if register `r` of a decoder can have the given value. If the decoder does not have the
+-- register, its only possible value is `None`.
 abbrev pub may_hold : Who → Register → Option Value → Bool
 may_hold (LocoWho active) SpeedRegister (Some (SpeedValue speed)) = is_speed speed
 may_hold (LocoWho active) Direction (Some (Forward forward)) = true

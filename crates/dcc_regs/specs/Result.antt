@@ -28,13 +28,13 @@ abbrev pub last_or : Value → List Value → Value
 last_or start [] = start
 last_or start (v ∷ vs) = last_or v vs
 
--- the value of a register with the value `start` after it was set to each value of `vs`, one after
--- the other. A register that the decoder does not have stays `None`.
+-- the value of a register that had the value `start`, and was then set to each value of `vs`, one
+-- after the other. A register that the decoder does not have stays `None`.
 abbrev pub set_in_turn : Option Value → List Value → Option Value
 set_in_turn start vs = option_map (λ v. last_or v vs) start
 
--- each packet of a list, as a pair with the packets before it. The packets `before` come before the
--- list.
+-- a pair for each packet of a list: the packets before it, and the packet. The packets `before`
+-- come before the list.
 abbrev pub places_from : List Packet → List Packet → List (List Packet × Packet)
 places_from before [] = []
 places_from before (p ∷ ps) = (before, p) ∷ places_from (before ++ p ∷ []) ps
@@ -42,13 +42,13 @@ places_from before (p ∷ ps) = (before, p) ∷ places_from (before ++ p ∷ [])
 abbrev pub places : List Packet → List (List Packet × Packet)
 places = places_from []
 
--- the pending write after a decoder has heard packet `p`: `p` if it is an own write, otherwise
--- `None`
+-- the pending write after a decoder has heard packet `p`. The result is `p` if `p` is an own write,
+-- otherwise `None`.
 abbrev pub left_pending : Packet → Option Packet
 left_pending p = if is_own_write p then Some p else None
 
--- the register Pending after a decoder has heard the packets `l`, if `start` are its registers
--- before
+-- the register Pending after a decoder has heard the packets `l`. Before these packets, its
+-- registers were `start`.
 abbrev pub pending_after : RegisterMap → List Packet → Option Value
 pending_after start l = set_in_turn (start PendingRegister) (map (λ p. PendingValue (left_pending p)) l)
 
@@ -57,23 +57,23 @@ abbrev pub is_repeated : Option Packet → Packet → Bool
 is_repeated None p = false
 is_repeated (Some before) p = same before p
 
--- true if the register Pending holds a packet that equals `p`
+-- true if the register Pending, with the value `held`, holds a packet that equals `p`
 abbrev pub is_pending : Option Value → Packet → Bool
 is_pending (Some (PendingValue before)) p = is_repeated before p
 is_pending held p = false
 
--- true if `p` is an own write that takes effect when the register Pending has the value `held`:
--- `held` is a packet that equals `p`
+-- true if `p` is an own write, and the register Pending, with the value `held`, holds a packet that
+-- equals `p`. Then the write takes effect.
 abbrev pub is_effective : Option Value → Packet → Bool
 is_effective held p = is_own_write p && is_pending held p
 
--- the value to which `p` sets bit `place` of CV `cv`. The result is `None` if `p` does not write
--- this bit, or if the write does not take effect.
+-- the value to which `p` sets bit `place` of CV `cv`, if the register Pending has the value `held`.
+-- The result is `None` if `p` does not write this bit, or if the write does not take effect.
 abbrev pub effective_set : Option Value → Packet → ℕ → ℕ → Option Value
 effective_set held p cv place = if is_effective held p then option_map Flag (bit_set p cv place) else None
 
--- bit `place` of CV `cv` after a decoder has heard the packets `l`: the value of the last write of
--- this bit that took effect
+-- bit `place` of CV `cv` after a decoder has heard the packets `l`. The bit has the value of its
+-- last write that took effect. Before `l`, the registers were `start`.
 abbrev pub cv_bit_after : RegisterMap → List Packet → ℕ → ℕ → Option Value
 cv_bit_after start l cv place =
     set_in_turn (start (CvBit cv place))
@@ -88,24 +88,26 @@ mode_of held = Steps14
 abbrev pub mode_after : RegisterMap → List Packet → SpeedMode
 mode_after start l = mode_of (cv_bit_after start l 29 1)
 
--- the plain register `r` after a decoder has heard the packets `l`: the last value to which a
--- packet sets it. Each packet is read in the speed mode after the packets before it.
+-- the plain register `r` after a decoder has heard the packets `l`. Its value is the last value to
+-- which a packet of `l` sets it. A packet means what it means in the speed mode after the packets
+-- before it. Before `l`, the registers were `start`.
 abbrev pub plain_after : RegisterMap → List Packet → Register → Option Value
 plain_after start l r = set_in_turn (start r) (filter_map (λ at. sets (mode_after start at.0) at.1 r) (places l))
 
--- all registers of a decoder after it has heard the packets `l`, if `start` are its registers
--- before
+-- all registers of a decoder after it has heard the packets `l`. Before these packets, its
+-- registers were `start`.
 abbrev pub result_of_heard : RegisterMap → List Packet → RegisterMap
 result_of_heard start l PendingRegister = pending_after start l
 result_of_heard start l (CvBit cv place) = cv_bit_after start l cv place
 result_of_heard start l r = plain_after start l r
 
--- all registers of decoder `who` after the packets `l`, of which it perhaps hears only some, if
--- `start` are its registers before
+-- all registers of decoder `who` after the packets `l`, of which the decoder perhaps hears only
+-- some. Before these packets, its registers were `start`.
 abbrev pub result : Who → RegisterMap → List Packet → RegisterMap
 result who start l = result_of_heard start (heard who l)
 
--- all registers of decoder `who` after one packet `p`, if `start` are its registers before
+-- all registers of decoder `who` after one packet `p`. Before this packet, its registers were
+-- `start`.
 abbrev pub step : Who → RegisterMap → Packet → RegisterMap
 step who start p = result who start (p ∷ [])
 

@@ -15,8 +15,8 @@ use Rattle.dcc_regs.specs.Result.{RegisterMap, left_pending, effective_set, mode
 abbrev pub mode_in : RegisterMap → SpeedMode
 mode_in m = mode_of (m (CvBit 29 1))
 
--- the value to which a heard packet `p` sets a register, or `None` if `p` does not set this
--- register. The registers before `p` are `m`.
+-- the value to which a heard packet `p` sets a register, if the decoder has the registers `m`
+-- before `p`. If `p` does not set this register, the result is `None`.
 abbrev pub set_from : RegisterMap → Packet → Register → Option Value
 set_from m p PendingRegister = Some (PendingValue (left_pending p))
 set_from m p (CvBit cv place) = effective_set (m PendingRegister) p cv place
@@ -28,8 +28,8 @@ set_from m p (Out n) = sets (mode_in m) p (Out n)
 set_from m p (Position n) = sets (mode_in m) p (Position n)
 set_from m p (Aspect n) = sets (mode_in m) p (Aspect n)
 
--- the value of a register after a packet: `set`, or the value before if `set` is `None`. A register
--- that the decoder does not have stays `None`.
+-- the value of a register after a packet. The value is `set`, or the value before the packet if
+-- `set` is `None`. A register that the decoder does not have stays `None`.
 abbrev pub value_over : Option Value → Option Value → Option Value
 value_over None set = None
 value_over (Some start) set = Some (unwrap_or set start)

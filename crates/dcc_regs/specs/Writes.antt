@@ -37,8 +37,8 @@ abbrev pub is_own_write : Packet → Bool
 is_own_write (ToLoco Broadcast what) = false
 is_own_write p = is_some (change_of p)
 
--- the value to which a change sets bit `k` of CV `n`, or `None` if the change does not set this bit
--- or the CV is read-only
+-- the value to which a change sets bit `k` of CV `n`. If the change does not set this bit, or if
+-- the CV is read-only, the result is `None`.
 abbrev pub bit_by : Option CvChange → ℕ → ℕ → Option Bool
 bit_by None n k = None
 bit_by (Some (Byte cv value)) n k = if n == cv.number && not (is_read_only cv.number) then Some
@@ -51,7 +51,7 @@ bit_by (Some (OneBit cv place one)) n k =
 abbrev pub bit_set : Packet → ℕ → ℕ → Option Bool
 bit_set p n k = bit_by (change_of p) n k
 
--- true if the change is a change of CV29
+-- true if the change writes CV29 or a bit of CV29
 abbrev pub is_of_cv29 : Option CvChange → Bool
 is_of_cv29 None = false
 is_of_cv29 (Some (Byte cv value)) = cv.number == 29

@@ -90,7 +90,7 @@ abbrev pub own_address_word : Option Address → Word
 own_address_word None = codes "none"
 own_address_word (Some address) = address_word address
 
--- the active address in a word ADDRESS: `none`, or `s` or `l` followed by a number
+-- the active address in a word ADDRESS. The word is `none`, or `s` or `l` and then a number.
 abbrev pub own_address : Word → Result (Option Address) PacketFault
 own_address word =
     if is_word word (codes "none") then Ok None
@@ -111,8 +111,8 @@ own_address_field =
       written = λ own. own_address_word own.address ∷ [];
     }
 
--- the number of an accessory decoder in a word BOARD, from 0 to 510. The number 511 has an error,
--- since it is the broadcast address.
+-- the number of an accessory decoder in a word BOARD, from 0 to 510. The number 511 is the
+-- broadcast address, and has an error.
 abbrev pub own_board : Word → Result OwnBoard PacketFault
 own_board word = do
   board ← board_number word
@@ -182,8 +182,8 @@ speed_after word rest =
     else if is_word word (codes "126") then step_words (λ n. speeds.Step126 n) 126 rest
     else Err faults.Word
 
--- the speed that the first words of a list mean, and the words after them. A speed is `stop`,
--- `emergency`, `14 STEP`, `28 STEP` or `126 STEP`.
+-- the speed that the first words of a list mean, and the words after these words. A speed is
+-- `stop`, `emergency`, `14 STEP`, `28 STEP` or `126 STEP`.
 abbrev pub speed_of : List Word → Result (Speed × List Word) PacketFault
 speed_of [] = Err faults.Word
 speed_of (word ∷ rest) = speed_after word rest
@@ -236,7 +236,8 @@ number_word_of kinds.State word = binary_state word
 number_word_of kinds.Out word = out_number word
 
 -- a number whose bit n is one if a word of the list is the number n. The numbers in the words must
--- be in ascending order, and the first number must be at least `least`.
+-- be in ascending order, and the first of them must be at least `least`. `kind` says which numbers
+-- are possible.
 abbrev pub numbers_from : Numbered → ℕ → List Word → Result ℕ PacketFault
 numbers_from kind least [] = Ok 0
 numbers_from kind least (word ∷ rest) = do
@@ -245,8 +246,8 @@ numbers_from kind least (word ∷ rest) = do
   others ← numbers_from kind (n + 1) rest
   Ok (2 ^ n + others)
 
--- the words of the numbers from `n` on whose bits in `bits` are one. The lowest bit stands for the
--- number `n`.
+-- the words of all numbers whose bits in `bits` are one. The lowest bit stands for the number `n`,
+-- the next bit for `n + 1`, and so on. The second argument is the number of bits.
 unfoldable pub numbers_on : ℕ → ℕ → ℕ → List Word
 numbers_on n zero bits = []
 numbers_on n (suc more) bits =
@@ -257,8 +258,9 @@ numbers_of kind line = do
   key ← word_and_rest (keyword (name_of kind)) line
   numbers_from kind 0 key.1
 
--- the line `on FUNCTION ..`, `states STATE ..` or `out OUTPUT ..`. Its value is a number whose bit
--- n is one if the number n is in the line. There is no binary state 0.
+-- the line `on FUNCTION ..`, `states STATE ..` or `out OUTPUT ..`, depending on `kind`. The value
+-- of the line is a number whose bit n is one if the number n is in the line. There is no binary
+-- state 0.
 abbrev pub numbers_line : Numbered → LineOf ℕ
 numbers_line kind = record {
   Fits = λ bits. (bits < 2 ^ end_of kind) × (kind ≡ kinds.State → bits % 2 ≡ 0);
@@ -272,8 +274,8 @@ framed_write active word = do
   packet ← pending_write active frame
   Ok (Some packet)
 
--- the packet in a word PACKET. The result is `None` for the word `none`. For another word, the
--- result is the CV write whose frame is in the word. A decoder with the address `active` must be
+-- the packet in a word PACKET. The result is `None` for the word `none`. Any other word has the
+-- frame of a CV write, and the result is this write. A decoder with the address `active` must be
 -- able to have this write as its pending write.
 abbrev pub pending_word : Option Address → Word → Result (Option Packet) PacketFault
 pending_word active word = if is_word word (codes "none") then Ok None else framed_write active word
@@ -324,7 +326,7 @@ abbrev pub loco_line_written : LocoLine → List Word
 loco_line_written (behind.Cv cv value) = cv_written cv.number value
 loco_line_written (behind.Head head) = written_by head_forms head
 
--- the line `cv CV VALUE` with a CV number of at least `least`, or the line that follows the CVs
+-- the line `cv CV VALUE` with a CV number of at least `least`, or the line after the lines of CVs
 abbrev pub loco_line : ℕ → LineOf LocoLine
 loco_line least = record { Fits = IsSoundLine least; read = loco_line_of least; written = loco_line_written }
 

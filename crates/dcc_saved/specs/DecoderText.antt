@@ -19,14 +19,15 @@ use Rattle.dcc_saved.specs.DecoderLines.{version_line, head_line, speed_line, nu
 use Rattle.dcc_saved.specs.DecoderLines.{loco_line, Four, listed, positions_line, aspects_line}
 use Rattle.dcc_saved.specs.TextReader.{Reader, ◌>>=◌, done, stop_at_decoder, line_by}
 
--- the reader after a line among the lines of CVs. After the line of a CV, the value of this CV is
--- set in `cvs`, and the reader `again` continues with the next line. Any other line ends the CVs.
+-- the reader after one of the lines among the CVs. If the line is `cv CV VALUE`, the value of the
+-- CV is set in `cvs`, and the reader `again` continues with the next line. Any other line ends the
+-- CVs.
 abbrev pub behind_loco_line : (ℕ → List ℕ → Reader (List ℕ × Head)) → List ℕ → LocoLine → Reader (List ℕ × Head)
 behind_loco_line again cvs (behind.Cv cv value) = again (cv.number + 1) (slice_set cvs (cv.number - 1) value)
 behind_loco_line again cvs (behind.Head head) = done (cvs, head)
 
--- the reader of the lines of CVs from CV `least` on, in ascending order, and of the line after
--- these lines. The reader sets the values in `cvs`, and reads at most `most` lines of CVs.
+-- the reader of the lines of CVs, in ascending order from CV `least` on, and of the line after
+-- these lines. The reader sets the values in `cvs`, and reads at most `most` lines.
 abbrev pub cvs_from : ℕ → ℕ → List ℕ → Reader (List ℕ × Head)
 cvs_from zero least cvs = stop_at_decoder
 cvs_from (suc most) least cvs = line_by (loco_line least) >>= behind_loco_line (cvs_from most) cvs
@@ -36,14 +37,14 @@ cvs_from (suc most) least cvs = line_by (loco_line least) >>= behind_loco_line (
 unfoldable pub cvs_lines : Reader (List ℕ × Head)
 cvs_lines = cvs_from 1025 1 (replicate 1024 0)
 
--- the reader of the line of the binary states that are on. Version 1 has no such line: all its
--- binary states are off.
+-- the reader of the line with the binary states that are on. A text of version 1 has no such line,
+-- and all its binary states are off.
 abbrev pub states_by : Version → Reader ℕ
 states_by versions.One = done 0
 states_by versions.Two = line_by (numbers_line kinds.State)
 
--- the reader of the lines of a locomotive decoder after its first line, and of the line that
--- follows the decoder. That line is the first line of the next decoder, or `end`.
+-- the reader of the lines of a locomotive decoder after its first line. The reader also reads the
+-- line after the decoder, which is the first line of the next decoder, or `end`.
 unfoldable pub loco_lines : Version → Option Address → Reader (Saved × Head)
 loco_lines version address = do
   speed ← line_by speed_line
@@ -65,7 +66,8 @@ loco_lines version address = do
     cvs.1,
   )
 
--- the state of an accessory decoder whose lines have the values `outs`, `positions` and `aspects`
+-- the state of accessory decoder `board`, if its lines have the values `outs`, `positions` and
+-- `aspects`
 abbrev pub board_read : Board → ℕ → Four Bit → Four ℕ → BoardState
 board_read board outs positions aspects =
     record {
@@ -75,8 +77,8 @@ board_read board outs positions aspects =
       aspects = listed aspects;
     }
 
--- the reader of the lines of an accessory decoder after its first line, and of the line that
--- follows the decoder. That line is the first line of the next decoder, or `end`.
+-- the reader of the lines of an accessory decoder after its first line. The reader also reads the
+-- line after the decoder, which is the first line of the next decoder, or `end`.
 unfoldable pub board_lines : Board → Reader (Saved × Head)
 board_lines board = do
   outs ← line_by (numbers_line kinds.Out)
@@ -85,8 +87,8 @@ board_lines board = do
   head ← line_by head_line
   done (saved.Board (board_read board outs positions aspects), head)
 
--- the reader of the lines of a decoder after its first line, and of the line that follows the
--- decoder. That line is the first line of the next decoder, or `end`.
+-- the reader of the lines of a decoder after its first line. The reader also reads the line after
+-- the decoder, which is the first line of the next decoder, or `end`.
 abbrev pub decoder_lines : Version → Who → Reader (Saved × Head)
 decoder_lines version (who.Loco address) = loco_lines version address
 decoder_lines version (who.Board board) = board_lines board

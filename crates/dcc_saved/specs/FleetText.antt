@@ -24,7 +24,7 @@ use Rattle.dcc_saved.specs.DecoderLines.{Four, version_line, head_line, speed_li
 use Rattle.dcc_saved.specs.DecoderLines.{cv_written}
 use Rattle.dcc_saved.specs.DecoderLines.{positions_line, aspects_line}
 
--- the speed that a register holds, or `Stop` if it holds no speed
+-- the speed that a register holds. If the register holds no speed, the result is `Stop`.
 abbrev pub speed_held : Option Value → Speed
 speed_held (Some (values.Speed speed)) = speed
 speed_held held = Stop
@@ -65,8 +65,8 @@ written_numbers kind m = line_text (numbers_line kind) (numbers_held kind m)
 abbrev pub written_pending : Option Address → RegisterMap → List ℕ
 written_pending address m = line_text (pending_line address) (pending_held (m registers.Pending))
 
--- part of the text of a locomotive decoder with the active address `address` and the registers `m`:
--- from its second line to the line before its CVs
+-- the text of a locomotive decoder from its second line to the line before its CVs. The decoder has
+-- the active address `address` and the registers `m`.
 abbrev pub before_cvs : Option Address → RegisterMap → List ℕ
 before_cvs address m =
     written_speed m

@@ -14,8 +14,8 @@ use Rattle.dcc_packet.specs.Values.{cv_of, place_of}
 use Rattle.dcc_packet.specs.LineWords.{◌>>=◌}
 use Rattle.dcc_regs.specs.Loco.{is_pending_for}
 
--- the number of the CV in the first two bytes of an instruction. The bits V in KKKKKKVV VVVVVVVV
--- are this number less 1.
+-- the number of the CV in the first two bytes of an instruction, KKKKKKVV VVVVVVVV. The bits V are
+-- the number of the CV minus one.
 abbrev pub cv_named : List ℕ → ℕ
 cv_named bytes = 256 * (slice_index bytes 0 % 4) + slice_index bytes 1 + 1
 
@@ -38,15 +38,15 @@ bit_write to bytes = do
 abbrev pub write_in : Address → List ℕ → Result Packet PacketFault
 write_in to bytes = if slice_index bytes 0 / 4 == 59 then byte_write to bytes else bit_write to bytes
 
--- `packet` if its frame is `frame` and the packet can be pending in a decoder with the address
--- `active`, otherwise the error P13
+-- `packet`, if its frame is `frame` and it can be pending in a decoder with the address `active`.
+-- Otherwise the result is the error P13.
 abbrev pub with_frame : Option Address → List ℕ → Result Packet PacketFault → Result Packet PacketFault
 with_frame active frame (Ok packet) =
     if bytes_eq (spelling packet) frame && is_pending_for active (Some packet) then Ok packet else Err faults.State
 with_frame active frame (Err fault) = Err faults.State
 
--- the CV write with the frame `frame` if it can be pending in a decoder with the address `to`,
--- otherwise the error P13
+-- the CV write with the frame `frame`, if it can be pending in a decoder with the address `to`.
+-- Otherwise the result is the error P13.
 unfoldable pub pending_write : Option Address → List ℕ → Result Packet PacketFault
 pending_write None frame = Err faults.State
 pending_write (Some to) frame = with_frame (Some to) frame (write_in to (drop (length (address_bytes to)) frame))

@@ -19,7 +19,7 @@ abbrev pub IsPossibleHead : Head → Type 0
 IsPossibleHead (heads.Decoder who) = is_decoder who ≡ true
 IsPossibleHead heads.End = Unit {0}
 
--- a line of a CV whose number is at least `least` and whose value is below 256, or a possible line
+-- a line of a CV, with a CV number of at least `least` and a value below 256, or a possible line
 -- after the CVs
 abbrev pub IsSoundLine : ℕ → LocoLine → Type 0
 IsSoundLine least (behind.Cv cv value) = (least ≤ cv.number) × (value < 256)

@@ -19,8 +19,8 @@ use Rattle.dcc_saved.specs.FleetText.{fleet_text}
 abbrev pub SameRegisters : RegisterMap → RegisterMap → Type 0
 SameRegisters one other = (r : Register) → one r ≡ other r
 
--- a saved state is the state of a decoder with a given identity and given registers. The state has
--- this identity, and a decoder that `restore` creates from the state has these registers.
+-- a saved state is the state of a decoder. The saved state has the identity of the decoder. A
+-- decoder that `restore` creates from the saved state has the registers of the decoder.
 abbrev pub Saves : Saved → Who × RegisterMap → Type 0
 Saves (saved.Loco state) (who.Loco address, m) =
     (state.address ≡ address) × SameRegisters (loco_registers (loco_state_content state)) m
@@ -44,8 +44,8 @@ abbrev pub line_feeds : List ℕ → ℕ
 line_feeds [] = 0
 line_feeds (byte ∷ bytes) = if byte == 10 then 1 + line_feeds bytes else line_feeds bytes
 
--- the text of `fleet`, which begins on line `line` and is followed by the bytes `rest`, is parsed
--- as the states of the decoders of `fleet`. The reader leaves `rest`.
+-- let the text of `fleet` begin on line `line`, and let the bytes `rest` follow it. The reader
+-- `decoder_text` parses this text as the states of the decoders of `fleet`, and leaves `rest`.
 pub record ReadsBack (fleet : List (Who × RegisterMap)) (line : ℕ) (rest : List ℕ) : Type 0 where
   pub states : List Saved
   pub behind : ℕ

@@ -12,15 +12,15 @@ use Rattle.dcc_saved.specs.TextReader.Stop.{refused, cut, too_many}
 abbrev pub at : InputState → List ℕ → Text
 at input bytes = record { line = input.place.line; bytes = bytes }
 
--- the error of a reader that stops before the end of a text. If the bytes of the text end too
--- early, the error is `last`, the error after these bytes. If `last` is `None`, the error is P10.
+-- the error of a reader that stops before the end of a text. If the text ends too early, the error
+-- is `last`, which comes after the bytes of the text. If `last` is `None`, the error is P10.
 abbrev pub stop_fault : Option KeptFault → Stop → KeptFault
 stop_fault last (refused line fault) = Line line fault
 stop_fault last (cut line) = fault_at_end line last
 stop_fault last (too_many line) = TooMuch
 
--- the value that a reader returned, or the error if the reader stopped. `last` is the error after
--- the bytes of the text, or `None` if the input ends there.
+-- the value that a reader returned. If the reader stopped, the result is its error. `last` is the
+-- error after the bytes of the text, or `None` if the input ends there.
 abbrev pub result_of : {A : Type 0} → Option KeptFault → Result (A × Text) Stop → Result A KeptFault
 result_of last (Ok read) = Ok read.0
 result_of last (Err stop) = Err (stop_fault last stop)
@@ -38,8 +38,8 @@ answer_in read input text = within_limit (answer_at read input) input text
 abbrev pub answer_before_failure : {A : Type 0} → Reader A → InputState → List ℕ → Result A KeptFault
 answer_before_failure read input used = answer_at read input used (Some Read)
 
--- let any bytes `more` follow `used`. The result of the reader `read` for `used` and `more` is the
--- result of the reader `rest_read` for `more`.
+-- let any bytes `more` follow `used`. The reader `read` has the same result for `used` and `more`
+-- as the reader `rest_read` has for `more`.
 pub record ContinuesAs {A : Type 0} (read : Reader A) (old : InputState) (rest_read : Reader A) (new : InputState)
     (used : List ℕ) : Type 0 where
   pub goes_on : (more : List ℕ) → read (at old (used ++ more)) ≡ rest_read (at new more)
@@ -71,29 +71,30 @@ abbrev pub RefusesText : {A : Type 0} → Reader A → InputState → KeptFault 
 RefusesText read old (Number line) new = ⊥
 RefusesText read old fault new = TextStopsAt read old fault new
 
--- the input has read the lines up to `line`, or all lines. If all lines were read and `old` was at
--- the beginning of a line, `line` is the number of the last line plus one.
+-- the input has read the lines up to line `line`, or all lines. If the input has read all lines,
+-- and `old` was at the beginning of a line, `line` is the number of the last line plus one.
 abbrev pub UsesThroughLine : InputState → ℕ → InputState → Type 0
 UsesThroughLine old line new = IfSome old.text (λ text. new.lines ≡ line)
     ⊎ (IsAtEnd new.text × UsesAllLines old new
     × IfSome old.text (λ text. old.lines + 1 ≡ old.place.line → line ≡ new.lines + 1))
 
--- a reader stopped at a decoder that exceeds the limit of decoders, and `line` is the line after
--- the first line of this decoder
+-- a reader stopped at a decoder that exceeds the limit of decoders. `line` is the number of the
+-- first line of this decoder plus one.
 abbrev pub StopsAtDecoder : {A : Type 0} → Result (A × Text) Stop → ℕ → Type 0
 StopsAtDecoder (Err (too_many behind)) line = line ≡ behind
 StopsAtDecoder read line = ⊥
 
--- the input has read the lines up to an error of the reader `read`. For U7 these are the lines of
--- the allowed bytes, or the lines up to the first line of the decoder that exceeds the limit.
+-- the input has read the lines up to an error of the reader `read`. If the error is U7, these are
+-- the lines of the allowed bytes, or the lines up to the first line of the decoder that exceeds the
+-- limit of decoders.
 abbrev pub TextLinesAt : {A : Type 0} → Reader A → InputState → KeptFault → InputState → Type 0
 TextLinesAt read old (Line line fault) new = UsesThroughLine old line new
 TextLinesAt read old TooMuch new =
     LinesAt old TooMuch new ⊎ IfSome old.text (λ text. StopsAtDecoder (read (at old text)) (new.lines + 1))
 TextLinesAt read old fault new = LinesAt old fault new
 
--- the result is the value that the reader `read` returns for the text of `old`, or the error of
--- this reader, which the input then stores
+-- the result is the value that the reader `read` returns for the text of `old`. If `read` has an
+-- error, the result is this error, and the input stores it.
 abbrev pub ReadsValue : {A : Type 0} → Reader A → InputState → Result A KeptFault → InputState → Type 0
 ReadsValue read old (Ok x) new = Leads read old (done x) new
 ReadsValue read old (Err fault) new = RefusesText read old fault new × (new.fault ≡ Some fault)

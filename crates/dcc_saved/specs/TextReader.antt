@@ -17,12 +17,11 @@ pub data Stop : Type 0 where
   refused : ℕ → PacketFault → Stop
   -- the text ends before the line with this number ends
   cut : ℕ → Stop
-  -- a decoder exceeds the limit of decoders, and its first line is the line before the line with
-  -- this number
+  -- a decoder exceeds the limit of decoders. This number is the number of its first line plus one.
   too_many : ℕ → Stop
 
--- a reader: a function from a text to a value and the text after it, or to the reason why the
--- reader stops
+-- a reader: a function that gets a text. It returns a value and the text after it, or the reason
+-- why the reader stops.
 abbrev pub Reader : Type 0 → Type 0
 Reader A = Text → Result (A × Text) Stop
 
@@ -30,7 +29,7 @@ abbrev pub read_on : {A B : Type 0} → Result (A × Text) Stop → (A → Reade
 read_on (Ok read) next = next read.0 read.1
 read_on (Err stop) next = Err stop
 
--- the reader `first` followed by the reader that `next` gives for the value of `first`
+-- the reader `first`, and then the reader that `next` gives for the value of `first`
 infixl 10 ◌>>=◌
 abbrev pub ◌>>=◌ : {A B : Type 0} → Reader A → (A → Reader B) → Reader B
 (first >>= next) text = read_on (first text) next
@@ -53,7 +52,8 @@ abbrev pub after_first_line : List ℕ → Option (List ℕ)
 after_first_line [] = None
 after_first_line (byte ∷ text) = if byte == 10 then Some text else after_first_line text
 
--- the value that line `n` means and the text `rest` after the line, or the error of the line
+-- the value of line `n`, and the text `rest` after this line. If the line has an error, the result
+-- is this error.
 abbrev pub line_verdict : {A : Type 0} → ℕ → Result A PacketFault → List ℕ → Result (A × Text) Stop
 line_verdict n (Ok x) rest = Ok (x, record { line = n + 1; bytes = rest })
 line_verdict n (Err fault) rest = Err (refused n fault)

@@ -12,19 +12,21 @@ use Rattle.dcc_io.specs.declared.fault.ToolFault.TheVariants as faults
 use Rattle.dcc_io.specs.declared.fault.Usage.TheVariants as usages
 use Rattle.dcc_saved.specs.DecoderLines.{own_address}
 
--- the locomotive decoder with the active address in a parsed word, or the error U1 if the word has
--- an error
+-- the locomotive decoder with the active address in a parsed word. If the word has an error, the
+-- result is the error U1.
 abbrev pub loco_named : Result (Option Address) PacketFault → Result Who ToolFault
 loco_named (Ok active) = Ok (who.Loco active)
 loco_named (Err fault) = Err (faults.Usage usages.BadWho)
 
--- the accessory decoder with the number in a parsed word, or the error U1 if the word has an error
+-- the accessory decoder with the number in a parsed word. If the word has an error, the result is
+-- the error U1.
 abbrev pub board_named : Result Board PacketFault → Result Who ToolFault
 board_named (Ok board) = Ok (who.Board board)
 board_named (Err fault) = Err (faults.Usage usages.BadWho)
 
--- the decoder that `word` names. The word of an accessory decoder is `b` (code 98) and its number.
--- The word of a locomotive decoder is its active address: `none`, or `s` or `l` and a number.
+-- the decoder that `word` names. The word of an accessory decoder is `b` (code 98) and then its
+-- number. The word of a locomotive decoder is its active address: `none`, or `s` or `l` and then a
+-- number.
 unfoldable pub who_named : Word → Result Who ToolFault
 who_named word =
     if slice_index word 0 == 98 then board_named (board_number (drop 1 word)) else loco_named (own_address word)

@@ -5,13 +5,14 @@ use Rattle.dcc_io.specs.declared.fault.ToolFault.{ToolFault}
 use Rattle.dcc_io.specs.declared.fault.ToolFault.TheVariants.{Usage, Number, Line, Read, Write, NoMemory, TooMuch}
 use Rattle.dcc_io.specs.declared.fault.Usage.TheVariants.{Words, BadWho, BadStation}
 
--- true if a request to `encode` has a station, and a size of this station is out of its limits
+-- true if the request to `encode` has a station with the given sizes, and one of these sizes is out
+-- of its limits
 abbrev pub is_past_limits : Option (ℕ × ℕ × ℕ) → Bool
 is_past_limits None = false
 is_past_limits (Some sizes) = not (is_within_limits sizes.0 sizes.1 sizes.2)
 
--- true if the result is not an error that occurs when `encode` creates its station. After such an
--- error nothing is read.
+-- false if the result is an error that occurs when `encode` creates its station. After such an
+-- error, `encode` reads nothing.
 abbrev pub has_begun : Result (Unit {0}) ToolFault → Bool
 has_begun (Ok done) = true
 has_begun (Err (Usage Words)) = true

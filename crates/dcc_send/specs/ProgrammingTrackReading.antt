@@ -19,8 +19,8 @@ abbrev pub value_on : Option (List ℕ) → CvNumber → Option ℕ
 value_on None cv = None
 value_on (Some cvs) cv = Some (cv_in cvs cv.number)
 
--- the answers to the nine questions about `cv`: the bits of the value and then true for a decoder,
--- nine times false for an empty track
+-- the answers to the nine questions about `cv`. A decoder with the CVs `cvs` answers with the bits
+-- of the value, and then with true. On an empty track, the answers are nine times false.
 abbrev pub answers_on : Option (List ℕ) → CvNumber → List Bool
 answers_on None cv = replicate 9 false
 answers_on (Some cvs) cv = true_answers (cv_in cvs cv.number)
@@ -37,8 +37,8 @@ answered_line frame answer = encode_lower frame ++ answer_text answer
 abbrev pub with_answer : CvAnswers → Bool → CvAnswers
 with_answer so_far answer = record { cv = so_far.cv; answers = so_far.answers ++ answer ∷ [] }
 
--- a line for each answer of a list, after the answers of the reading `so_far`. The line has the
--- answer and its question, which depends on the earlier answers.
+-- a line for each answer of a list. These answers come after the answers of the reading `so_far`.
+-- Each line has a question and its answer. A question depends on the earlier answers.
 abbrev pub answered_lines : CvAnswers → List Bool → List ℕ
 answered_lines so_far [] = []
 answered_lines so_far (answer ∷ answers) =
@@ -48,7 +48,7 @@ answered_lines so_far (answer ∷ answers) =
 abbrev pub no_answers : CvNumber → CvAnswers
 no_answers cv = record { cv = cv; answers = [] }
 
--- the line of the value of a CV, or of a reading that ends without a value
+-- the line with the value of a CV, or the line of a reading that ends without a value
 abbrev pub value_line : Option ℕ → List ℕ
 value_line None = codes "no answer\n"
 value_line (Some value) = codes "value " ++ (decimal value ++ codes "\n")

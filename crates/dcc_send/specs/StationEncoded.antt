@@ -30,19 +30,20 @@ abbrev pub refusal_line : Refused → List ℕ
 refusal_line NotSendable = codes "# refused C3\n"
 refusal_line QueueFull = codes "# refused C4\n"
 
--- the bytes that are written for a command: the line of its error, or no bytes if the station
--- accepts the command
+-- the bytes that are written for a command: the line of its error. If the station accepts the
+-- command, there are no bytes.
 abbrev pub command_line : Option Refused → List ℕ
 command_line None = []
 command_line (Some refused) = refusal_line refused
 
--- the state of a station after the command `packet`. The station adds the command to its queue if
--- the command has no error.
+-- the state of a station in state `s` after the command `packet`. The station adds the command to
+-- its queue if the command has no error.
 abbrev pub after_command : sending.Sending → Packet → Option Refused → sending.Sending
 after_command s packet None = sending.with_command s packet
 after_command s packet (Some refused) = s
 
--- a station in state `s` answers a request with `bytes` and goes to state `new`
+-- a station in state `s` answers a request with `bytes` and goes to state `new`. Packets are
+-- written in the encoding `how`.
 abbrev pub Answers : Encode → sending.Sending → Asked → List ℕ → sending.Sending → Type 0
 Answers how s (Command frame) bytes new =
     (packet : Packet) × (spelling packet ≡ frame) × (bytes ≡ command_line (refusal s packet))
@@ -58,8 +59,8 @@ AnswersAll how s (item ∷ later) bytes new =
     (between : sending.Sending) × (first rest : List ℕ) × (bytes ≡ first ++ rest) × Answers how s item first between
     × AnswersAll how between later rest new
 
--- a station in state `s` that gets the requests `items` goes to state `new`, and its answers were
--- written
+-- a station in state `s` that gets the requests `items` goes to state `new`. Its answers to these
+-- requests were written.
 pub record Wrote (how : Encode) (s : sending.Sending) (items : List Asked) (new : sending.Sending)
     (before after : WriterState) : Type 0 where
   pub bytes : List ℕ

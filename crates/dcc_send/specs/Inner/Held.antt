@@ -20,7 +20,7 @@ WritesOut before held left after =
 
 -- If the result is an item of the input, a prefix of the buffered bytes `held` was written, and the
 -- suffix `left` is still buffered. At the end of the input, or at an error of the input, all bytes
--- `held` were written. If a write failed or wrote no byte, no item was read.
+-- `held` were written. If a write failed or wrote no byte, the input read no item.
 abbrev pub TakesNext : {C : Type 0} → (InputState → Result (Option C) KeptFault → InputState → Type 0) → InputState
     → WriterState → List ℕ → Result (Result (Option C) KeptFault) Failed → InputState → List ℕ → WriterState → Type 0
 TakesNext answers old before held (Ok (Ok (Some next))) new left after =
@@ -32,8 +32,9 @@ TakesNext answers old before held (Ok (Err fault)) new left after =
 TakesNext answers old before held (Err failed) new left after =
     (new ≡ old) × AppendsFront before after held × HasRisen before.failures after.failures
 
--- a station in state `s` that gets the requests `items` goes to state `new`. The bytes `held` and
--- the answers of the station were written, except for their suffix `left`, which is buffered.
+-- a station in state `s` that gets the requests `items` goes to state `new`. Let `held` and then
+-- the answers of the station form one list of bytes. This list was written except for its suffix
+-- `left`, which is buffered.
 pub record HoldsAnswers (how : Encode) (s : sending.Sending) (items : List Asked) (new : sending.Sending)
     (before after : WriterState) (held left : List ℕ) : Type 0 where
   pub bytes : List ℕ
@@ -52,9 +53,9 @@ pub record HeldFront (how : Encode) (s : sending.Sending) (items : List Asked) (
   pub answers : AnswersAll how s first bytes new
   pub written : AppendsFront before after (held ++ bytes)
 
--- if the result is Ok, `held` and the answers of a station to `items` were written or are buffered.
--- If the result is an error, a write failed or wrote no byte, and a prefix of these bytes was
--- written.
+-- let `held` and then the answers of a station in state `s` to `items` form one list of bytes. If
+-- the result is Ok, this list was written except for its suffix `left`, which is buffered. If the
+-- result is an error, a write failed or wrote no byte, and a prefix of the list was written.
 abbrev pub HoldsAnswersOrFails : Encode → sending.Sending → List Asked → WriterState → List ℕ
     → Result (Unit {0}) Failed → sending.Sending → List ℕ → WriterState → Type 0
 HoldsAnswersOrFails how s items before held (Ok done) new left after =

@@ -13,8 +13,8 @@ use Rattle.dcc_io.specs.WriterState.{WriterState}
 use Rattle.dcc_io.specs.WrittenBytes.{AppendsFront}
 
 -- if the result is Ok, the line of `answer` was written, and the result is the reading `so_far`
--- after this answer. If the result is an error, a write failed or wrote no byte, and a prefix of
--- the line was written.
+-- with this answer. If the result is an error, a write failed or wrote no byte, and a prefix of the
+-- line was written.
 abbrev pub TakesAnswer : CvAnswers → Bool → WriterState → Result Reading Failed → WriterState → Type 0
 TakesAnswer so_far answer before result after =
     MatchResult result
