@@ -45,8 +45,8 @@ can_move p =
     option_map_or (λ speed. not (is_stop speed)) (speed_set Steps14 p) false
     || option_map_or (λ speed. not (is_stop speed)) (speed_set Steps28 p) false
 
--- true for each speed packet to a short or long address. Of the speed packets to all locomotives,
--- true for those with 128 steps.
+-- true for each speed packet to a short or long address, and for each speed packet of 128 steps to
+-- all locomotives
 abbrev pub can_have_step : Packet → Bool
 can_have_step (ToLoco Broadcast (Speed28 forward bits)) = false
 can_have_step (ToLoco to (Speed28 forward bits)) = true

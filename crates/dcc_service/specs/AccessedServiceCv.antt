@@ -14,15 +14,15 @@ service_cv (Verify cv value) = cv
 service_cv (BitWrite cv bits one) = cv
 service_cv (BitVerify cv bits one) = cv
 
--- A decoder in state `before` that gets `frame` executes the service packet `packet`: the decoder is
--- in service mode, and `packet` is pending and has this frame.
+-- A decoder in state `before` gets `frame` and executes the service packet `packet`. The decoder is
+-- in service mode, and `packet` is pending and has the frame `frame`.
 pub record Executes (before : ServiceState) (frame : List ℕ) (packet : ServicePacket) : Type 0 where
   pub in_service : before.in_service ≡ true
   pub pending : before.pending ≡ Some packet
   pub spelled : frame ≡ service_spelling packet
 
--- A decoder in state `before` that gets `frame` accesses the CV `cv`. If the decoder executes a
--- packet, `cv` is the CV of this packet. If it executes no packet, `cv` is `None`.
+-- A decoder in state `before` gets `frame` and accesses the CV `cv`. If the decoder executes a
+-- packet, `cv` is the CV of this packet. If the decoder executes no packet, `cv` is `None`.
 pub record Accesses (before : ServiceState) (frame : List ℕ) (cv : Option CvNumber) : Type 0 where
   pub executed : (packet : ServicePacket) → Executes before frame packet → cv ≡ Some (service_cv packet)
   pub none : ((packet : ServicePacket) → ¬ (Executes before frame packet)) → cv ≡ None

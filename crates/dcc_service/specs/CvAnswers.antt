@@ -13,8 +13,8 @@ pub record CvAnswers : Type 0 where
   pub answers : List Bool
 
 -- a service packet is the next question of the reading `so_far`. After k answers, with k below 8,
--- the question compares bit k of the CV with one. After eight answers the question compares the CV
--- with the value whose bits are the answers.
+-- the question compares bit k of the CV with one. After eight answers, the question compares the CV
+-- with the value whose bits are these answers.
 abbrev pub Asks : CvAnswers → ServicePacket → Type 0
 Asks so_far (BitVerify cv bits one) = (cv ≡ so_far.cv) × (bits.place ≡ length so_far.answers) × (one ≡ true)
 Asks so_far (Verify cv value) =

@@ -21,15 +21,16 @@ pub record ServiceState : Type 0 where
 abbrev pub reset_bytes : List ℕ
 reset_bytes = with_error_byte (0 ∷ 0 ∷ [])
 
--- the CVs of a decoder after it has executed a service packet. `cvs` are its CVs before.
+-- the CVs of a decoder after it has executed a service packet. Before the packet, its CVs were
+-- `cvs`.
 abbrev pub acted_on : ServicePacket → List ℕ → List ℕ
 acted_on (Write cv value) cvs = written cvs cv value
 acted_on (Verify cv value) cvs = cvs
 acted_on (BitWrite cv bits one) cvs = written cvs cv (with_bit (cv_in cvs cv.number) bits.place one)
 acted_on (BitVerify cv bits one) cvs = cvs
 
--- true if a decoder with the CVs `cvs` acknowledges a service packet that it executes. It
--- acknowledges a write to a CV except CV7 and CV8, and a comparison of equal values.
+-- true if a decoder with the CVs `cvs` acknowledges a service packet that it executes. The decoder
+-- acknowledges a write to each CV except CV7 and CV8, and a comparison of equal values.
 abbrev pub is_acknowledged : ServicePacket → List ℕ → Bool
 is_acknowledged (Write cv value) cvs = is_writable cv
 is_acknowledged (Verify cv value) cvs = cv_in cvs cv.number == value

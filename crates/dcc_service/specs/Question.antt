@@ -8,8 +8,9 @@ use Rattle.dcc_service.specs.Table.{service_spelling}
 abbrev pub question_bytes : ServicePacket → List (List ℕ)
 question_bytes packet = replicate 3 reset_bytes ++ replicate 5 (service_spelling packet)
 
--- a decoder in state `before` that gets a list of frames, one after the other, goes to state
--- `after`. The list of answers has its acknowledgement of each frame.
+-- a decoder in state `before` gets the frames of a list, one after the other, and goes to state
+-- `after`. The list of answers has one answer for each frame, true if the decoder acknowledges the
+-- frame.
 unfoldable pub Steps : ServiceState → List (List ℕ) → ServiceState → List Bool → Type 0
 Steps before [] after [] = after ≡ before
 Steps before [] after (answer ∷ answers) = ⊥
@@ -17,7 +18,7 @@ Steps before (frame ∷ frames) after [] = ⊥
 Steps before (frame ∷ frames) after (answer ∷ answers) =
     (next : ServiceState) × Step before frame next answer × Steps next frames after answers
 
--- the state of a decoder after a question. `before` is its state before the question. The decoder
+-- the state of a decoder after a question. Before the question, its state was `before`. The decoder
 -- is in service mode and has executed `packet`, which is still pending.
 abbrev pub after_question : ServiceState → ServicePacket → ServiceState
 after_question before packet = record { in_service = true; pending = Some packet; cvs = acted_on packet before.cvs }

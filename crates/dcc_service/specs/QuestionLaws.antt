@@ -24,23 +24,23 @@ QuestionsAreAnswered =
     → IsAsked question before after answers
     → (after ≡ after_question before question) × (answers ≡ four_no_then (is_acknowledged question before.cvs))
 
--- `frame` leads a decoder from a state to at most one state, with at most one answer
+-- `frame` leads a decoder from each state to at most one state, with at most one answer
 abbrev pub OneStep : List ℕ → Type 0
 OneStep frame =
     (before after other : ServiceState) (answer reply : Bool) → Step before frame after answer
     → Step before frame other reply
     → (after ≡ other) × (answer ≡ reply)
 
--- a decoder acknowledges a question that verifies a CV if and only if `cv` has the value `value`.
--- The question changes no CV.
+-- a decoder gets a question that compares the CV `cv` with `value`. The decoder acknowledges the
+-- question if and only if `cv` has this value. The question changes no CV.
 abbrev pub VerifiesTell : Type 0
 VerifiesTell =
     (cv : CvNumber) (value : ℕ) (before after : ServiceState) (answers : List Bool)
     → IsAsked (Verify cv value) before after answers
     → (answers ≡ four_no_then (cv_in before.cvs cv.number == value)) × (after.cvs ≡ before.cvs)
 
--- a decoder acknowledges a question that verifies a bit of `cv` if and only if the bit has the
--- value `one`. The question changes no CV.
+-- a decoder gets a question that compares a bit of the CV `cv` with `one`. The decoder acknowledges
+-- the question if and only if the bit has this value. The question changes no CV.
 abbrev pub BitVerifiesTell : Type 0
 BitVerifiesTell = (cv : CvNumber) (bits : BitPlace) (one : Bool) (before after : ServiceState) (answers : List Bool)
     → IsAsked (BitVerify cv bits one) before after answers
@@ -56,16 +56,17 @@ abbrev pub OtherBitsStay : BitPlace → ℕ → ℕ → Type 0
 OtherBitsStay bits before after =
     (other : BitPlace) → other.place ≢ bits.place → bit_at after other.place ≡ bit_at before other.place
 
--- if a question writes `value` to a CV except CV7 and CV8, a decoder acknowledges the question and
--- the CV then has this value. All other CVs are unchanged.
+-- let a question write `value` to a CV except CV7 and CV8. Then a decoder acknowledges the
+-- question, and the CV has this value after it. All other CVs are unchanged.
 abbrev pub WritesAreDone : Type 0
 WritesAreDone =
     (cv : CvNumber) (value : ℕ) (before after : ServiceState) (answers : List Bool) → is_read_only cv.number ≡ false
     → IsAsked (Write cv value) before after answers
     → (answers ≡ four_no_then true) × (cv_in after.cvs cv.number ≡ value) × OtherCvsStay cv before.cvs after.cvs
 
--- if a question writes a bit of a CV except CV7 and CV8, a decoder acknowledges the question and
--- the bit then has the value `one`. All other bits of this CV and all other CVs are unchanged.
+-- let a question write the value `one` to a bit of a CV except CV7 and CV8. Then a decoder
+-- acknowledges the question, and the bit has this value after it. All other bits of this CV, and
+-- all other CVs, are unchanged.
 abbrev pub BitWritesAreDone : Type 0
 BitWritesAreDone =
     (cv : CvNumber) (bits : BitPlace) (one : Bool) (before after : ServiceState) (answers : List Bool)

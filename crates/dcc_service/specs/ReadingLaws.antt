@@ -23,8 +23,8 @@ true_answers value = bits_from_lowest 8 value ++ true ∷ []
 abbrev pub AreFirstOf : List Bool → List Bool → Type 0
 AreFirstOf answers all = answers ≡ take (length answers) all
 
--- if all answers so far of a reading are true answers, the acknowledgement of the next question by
--- a decoder is the next true answer
+-- let all answers of the reading `so_far` be true answers. Then the acknowledgement of the next
+-- question by a decoder is the next true answer.
 abbrev pub DecodersTellTheTruth : Type 0
 DecodersTellTheTruth = (so_far : CvAnswers) (question : ServicePacket) (cvs : List ℕ) → IsCvs cvs → Asks so_far question
     → AreFirstOf so_far.answers (true_answers (cv_in cvs so_far.cv.number))
@@ -64,8 +64,8 @@ pub record IsPut (question : ServicePacket) (cvs after : List ℕ) (answer : Boo
   pub is : answer ≡ is_acknowledged question cvs
   pub acted : after ≡ acted_on question cvs
 
--- a reading of `cv` is under way. The decoder still has the CVs `cvs` of the start, and all answers
--- so far are true answers.
+-- a reading of `cv` is under way. The decoder now has the CVs `now`, which are the CVs `cvs` of the
+-- start. All answers in `so_far` are true answers.
 pub record IsReadingUnderWay (cv : CvNumber) (cvs now : List ℕ) (so_far : CvAnswers) : Type 0 where
   pub same_cv : so_far.cv ≡ cv
   pub kept : now ≡ cvs

@@ -8,8 +8,8 @@ use Rattle.dcc_packet.specs.declared.cv.CvNumber.{CvNumber}
 use Rattle.dcc_service.specs.declared.packet.ServicePacket.{ServicePacket}
 use Rattle.dcc_service.specs.declared.packet.ServicePacket.TheVariants.{Write, Verify, BitWrite, BitVerify}
 
--- the bytes of an access: `kind` with the two high bits of A, the eight low bits of A, and the byte
--- `last`
+-- the bytes of an access. The first byte is `kind` with the two high bits of A, the second byte has
+-- the eight low bits of A, and the third byte is `last`.
 abbrev pub access_bytes : ℕ → CvNumber → ℕ → List ℕ
 access_bytes kind cv last = (kind + (cv.number - 1) / 256) ∷ ((cv.number - 1) % 256) ∷ last ∷ []
 

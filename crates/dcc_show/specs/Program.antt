@@ -7,8 +7,8 @@ use Rattle.dcc_io.specs.InputState.{InputState}
 use Rattle.dcc_io.specs.WriterState.{WriterState}
 use Rattle.dcc_capture.specs.Shown.{Shows}
 
--- the program has listed the capture, with packet lines or hexadecimal digits. If its arguments
--- have an error, `result` is this error, and nothing was read or written.
+-- the program has listed the capture, with packet lines if `words` is true. If its arguments have
+-- an error, `result` is this error, and the program read and wrote nothing.
 abbrev pub DoesAsAsked : Result Bool ToolFault → InputState → WriterState → Result (Unit {0}) ToolFault → InputState
     → WriterState → Type 0
 DoesAsAsked (Ok words) old before result new after = Shows words old before result new after

@@ -19,28 +19,29 @@ pub data StationRepresents : Sending → List Packet → List Packet → Type 0 
   hands_out : (s new : Sending) (commands packets : List Packet) (p : Packet) → StationRepresents s commands packets
       → Next s p new → StationRepresents new commands (packets ++ p ∷ [])
 
--- the packets that the operator intends by a list of commands: each command once, but each own
--- write twice
+-- the packets that the operator intends by a list of commands. The list has each command once, and
+-- each own write twice.
 abbrev pub intended : List Packet → List Packet
 intended [] = []
 intended (p ∷ later) = if is_own_write p then p ∷ p ∷ intended later else p ∷ intended later
 
--- for any registers at the start, the lists `left` and `right` lead decoder `who` to the same value
--- in each register except Pending
+-- let decoder `who` have any registers at the start. Each register except Pending has the same
+-- value after the list `left` as after the list `right`.
 abbrev pub LeaveTheSameButPending : Who → List Packet → List Packet → Type 0
 LeaveTheSameButPending who left right =
     (start : RegisterMap) (register : Register) → register ≢ registers.Pending
     → result who start left register ≡ result who start right register
 
--- suppose that no copy of a command in the queue was sent so far. Then the returned packets lead
--- each decoder to the same registers as the commands that have left the queue, except Pending.
+-- let the station have sent no copy of any command in its queue. Then each decoder has the same
+-- registers, except Pending, after the returned packets as after the commands that have left the
+-- queue.
 abbrev pub RefreshIsTransparent : Type 0
 RefreshIsTransparent =
     (s : Sending) (done packets : List Packet) → StationRepresents s (done ++ s.waiting) packets → s.sent ≡ 0 →
     (who : Who) → LeaveTheSameButPending who packets (intended done)
 
--- if no command waits, the returned packets and all accepted commands lead each decoder to the same
--- registers, except Pending
+-- if no command waits, each decoder has the same registers, except Pending, after the returned
+-- packets as after all accepted commands
 abbrev pub TransparentWhereNothingWaits : Type 0
 TransparentWhereNothingWaits =
     (s : Sending) (commands packets : List Packet) → StationRepresents s commands packets → s.waiting ≡ [] →
@@ -53,7 +54,7 @@ EntriesAreHandedOutInTurn =
     (s new : Sending) (packets : List Packet) → s.waiting ≡ [] → length packets ≡ length s.entries
     → NextAll s packets new → (packets ≡ s.entries) × (new ≡ s)
 
--- the commands in the queue are the last of the accepted commands
+-- the commands in the queue are the last commands among the accepted commands
 abbrev pub WaitingIsSuffix : Type 0
 WaitingIsSuffix =
     (s : Sending) (commands packets : List Packet) → StationRepresents s commands packets
@@ -82,8 +83,8 @@ OneMoreHandedOut =
     → HasHeardStation s commands who start who' now → Next s p new → who'' ≡ who' → after ≡ step who' now p
     → HasHeardStation new commands who start who'' after
 
--- if a decoder has heard all packets that a station has returned, this is still true after the
--- station has accepted one more command
+-- let a decoder have heard all packets that a station has returned. After the station has accepted
+-- one more command, the decoder has still heard all packets that the station has returned.
 abbrev pub OneMoreAccepted : Type 0
 OneMoreAccepted = (s new : Sending) (commands : List Packet) (p : Packet) (who who' : Who) (start now : RegisterMap)
     → HasHeardStation s commands who start who' now
@@ -91,8 +92,8 @@ OneMoreAccepted = (s new : Sending) (commands : List Packet) (p : Packet) (who w
     → StationRepresents new (commands ++ p ∷ []) packets)
     → HasHeardStation new (commands ++ p ∷ []) who start who' now
 
--- if no command waits, a decoder that has heard all packets of the station has the result of the
--- commands in each register except Pending
+-- let no command wait, and let a decoder have heard all packets that the station has returned. Then
+-- each register except Pending has its value after the packets `intended` by the commands.
 abbrev pub HeardIsIntended : Type 0
 HeardIsIntended = (s : Sending) (commands : List Packet) (who who' : Who) (start now : RegisterMap)
     (register : Register)

@@ -9,8 +9,8 @@ use Rattle.dcc_regs.specs.Writes.{is_own_write, writes_cv29}
 use Rattle.circular_buffer.specs.Buffer.{keep_last}
 use Rattle.dcc_station.specs.Commands.{is_refreshed}
 
--- the state of a station: its queue `waiting`, the number `sent` of copies of the first command
--- that it has returned, its `entries`, and its sizes
+-- the state of a station: its queue `waiting`, its `entries` and its sizes. `sent` is the number of
+-- copies of the first command in the queue that the station has returned.
 pub record Sending : Type 0 where
   pub waiting : List Packet
   pub sent : ℕ
@@ -24,13 +24,14 @@ abbrev pub idle_sending : ℕ → ℕ → ℕ → Sending
 idle_sending queue slots repeats =
     record { waiting = []; sent = 0; entries = []; queue = queue; slots = slots; repeats = repeats }
 
--- the number of copies of the command `p` that are sent in a row. An own write is sent once more
--- than other commands, since it takes effect at its second copy.
+-- the number of copies of the command `p` that are sent in a row. For an own write the number is
+-- `repeats + 1`, because the write takes effect at its second copy. For any other command it is
+-- `repeats`.
 abbrev pub copies : ℕ → Packet → ℕ
 copies repeats p = if is_own_write p then repeats + 1 else repeats
 
--- the command `p` displaces `entry`: the two packets are equal, or they conflict, or `p` writes
--- CV29 and both packets have the same address
+-- the command `p` displaces `entry`. Either the two packets are equal, or they conflict, or `p`
+-- writes CV29 and both packets have the same address.
 abbrev pub Displaces : Packet → Packet → Type 0
 Displaces p entry = (entry ≡ p) ⊎ (Conflict p entry ⊎ ((writes_cv29 p ≡ true) × (address_of entry ≡ address_of p)))
 
@@ -46,8 +47,8 @@ Leaves p (entry ∷ entries) kept =
 abbrev pub with_entry : ℕ → List Packet → Packet → List Packet
 with_entry slots entries p = keep_last slots (entries ++ p ∷ [])
 
--- `new` are the entries of a station after the first copy of the command `p`. `entries` are its
--- entries before.
+-- `new` are the entries of a station after the first copy of the command `p`, and `entries` are its
+-- entries before this copy. A station has at most `slots` entries.
 abbrev pub Refreshes : ℕ → Packet → List Packet → List Packet → Type 0
 Refreshes slots p entries new =
     (kept : List Packet) × Leaves p entries kept × (new ≡ (if is_refreshed p then with_entry slots kept p else kept))
@@ -56,23 +57,23 @@ Refreshes slots p entries new =
 abbrev pub with_command : Sending → Packet → Sending
 with_command s p = record s { waiting = s.waiting ++ p ∷ [] }
 
--- the state of a station after one more copy of the command `p`. The command leaves the queue after
--- its last copy. `rest` are the commands after `p`.
+-- the state of a station after one more copy of the command `p`. `rest` are the commands after `p`,
+-- and `entries` are the new entries. After its last copy, `p` leaves the queue.
 abbrev pub sent_once_more : Sending → Packet → List Packet → List Packet → Sending
 sent_once_more s p rest entries =
     if nat_le (copies s.repeats p) (s.sent + 1)
     then record s { waiting = rest; sent = 0; entries = entries }
     else record s { sent = s.sent + 1; entries = entries }
 
--- `after` are the entries of a station after one more copy of the command `p`. Only the first copy
--- changes the entries.
+-- `after` are the entries of a station after one more copy of the command `p`, if `sent` copies
+-- were sent before. Only the first copy changes the entries.
 abbrev pub EntriesAfter : ℕ → ℕ → Packet → List Packet → List Packet → Type 0
 EntriesAfter zero slots p entries after = Refreshes slots p entries after
 EntriesAfter (suc sent) slots p entries after = after ≡ entries
 
 -- a station in state `s` returns the packet `out` and goes to state `new`. The packet `out` is a
 -- copy of the first command in the queue. If no command waits, `out` is the first entry, which
--- moves to the end. If there is no entry, `out` is an idle packet.
+-- moves to the end of the entries. If there is no entry, `out` is an idle packet.
 abbrev pub HandsOut : List Packet → List Packet → Sending → Packet → Sending → Type 0
 HandsOut (p ∷ rest) entries s out new =
     (out ≡ p)

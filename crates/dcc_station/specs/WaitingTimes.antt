@@ -37,8 +37,8 @@ RunsGoOnByCommands =
     (s between : Sending) (packets : List Packet) (p : Packet) → RunsTo s packets between
     → RunsTo s packets (with_command between p)
 
--- the copies of all commands of a list, in order. `repeats` is the number of copies of each command
--- that is no own write.
+-- the copies of all commands of a list, in order. There are `repeats` copies of each command, or
+-- `repeats + 1` copies of an own write.
 abbrev pub all_copies : ℕ → List Packet → List Packet
 all_copies repeats [] = []
 all_copies repeats (p ∷ later) = replicate (copies repeats p) p ++ all_copies repeats later
@@ -48,13 +48,13 @@ all_copies repeats (p ∷ later) = replicate (copies repeats p) p ++ all_copies 
 abbrev pub copies_left : Sending → List Packet → List Packet
 copies_left s before = drop s.sent (all_copies s.repeats before)
 
--- the packets of a list, sent with `timing`
+-- each of `packets`, with the timing `timing`
 abbrev pub sent_with : Timing → List Packet → List Sent
 sent_with timing packets = map (λ p. record { bytes = spelling p; timing = timing }) packets
 
--- the next packets of a station are the remaining copies of the commands `before`, then a copy of
--- the command `p` that follows `before` in the queue. It is the first copy of `p`, unless `before`
--- is empty and copies of `p` were sent already.
+-- the commands `before` are the first commands in the queue, and the command `p` follows them. The
+-- next packets are the remaining copies of `before`, and then a copy of `p`. If `before` is empty,
+-- copies of `p` may already have been sent. Otherwise this copy is the first copy of `p`.
 abbrev pub CommandsAreSentInTurn : Type 0
 CommandsAreSentInTurn =
     (s new : Sending) (commands returned before later packets : List Packet) (p : Packet)
@@ -63,8 +63,8 @@ CommandsAreSentInTurn =
     → (rest : List Packet) × (packets ≡ copies_left s before ++ p ∷ rest)
 
 -- a station accepts the command `p`. The next packets are the remaining copies of the commands that
--- waited before `p`, and then the first copy of `p`. The remaining copies are at most `repeats + 1`
--- packets for each command that waited.
+-- waited before `p`, and then the first copy of `p`. If `w` commands waited, there are at most `w *
+-- (repeats + 1)` remaining copies.
 abbrev pub CommandsWaitForFewPackets : Type 0
 CommandsWaitForFewPackets =
     (s new : Sending) (commands returned packets : List Packet) (p : Packet) → StationRepresents s commands returned
@@ -72,8 +72,8 @@ CommandsWaitForFewPackets =
     → (rest : List Packet) × (packets ≡ copies_left s s.waiting ++ p ∷ rest)
     × (length (copies_left s s.waiting) ≤ length s.waiting * (s.repeats + 1))
 
--- each packet has at most `2 * (preamble + 55)` half-bits: the preamble, 6 bytes of 9 bits, and the
--- end bit
+-- each packet has at most `2 * (preamble + 55)` half-bits. It consists of the preamble, 6 bytes of
+-- 9 bits each, and the end bit.
 abbrev pub SentPacketsAreShort : Type 0
 SentPacketsAreShort =
     (timing : Timing) (packets : List Packet) → AllByRecursion BytesFit packets
@@ -90,9 +90,9 @@ SentPacketsTakeFewMicroseconds =
     (timing : Timing) (packets : List Packet) → AllByRecursion BytesFit packets
     → sum (sent_all (sent_with timing packets)) ≤ length packets * longest_time timing
 
--- a station accepts the command `p`, and `first` are the packets before the first copy of `p`. Let
--- n be `repeats + 1` times the number of commands that waited, plus one. The packets `first` and
--- this copy have at most as many half-bits as n packets of 6 bytes.
+-- a station in which `w` commands wait accepts the command `p`. Let `first` be the packets before
+-- the first copy of `p`, and let n be `w * (repeats + 1) + 1`. Then `first` and this copy have at
+-- most `n * 2 * (preamble + 55)` half-bits.
 abbrev pub CommandsAreSentInTime : Type 0
 CommandsAreSentInTime =
     (s new : Sending) (commands returned packets : List Packet) (p : Packet) (timing : Timing)
@@ -102,9 +102,9 @@ CommandsAreSentInTime =
     × (length (sent_all (sent_with timing (first ++ p ∷ [])))
     ≤ (length s.waiting * (s.repeats + 1) + 1) * (2 * (timing.preamble + 55)))
 
--- a station accepts the command `p`, and `first` are the packets before the first copy of `p`. Let
--- n be `repeats + 1` times the number of commands that waited, plus one. The packets `first` and
--- this copy take at most n times `longest_time` microseconds.
+-- a station in which `w` commands wait accepts the command `p`. Let `first` be the packets before
+-- the first copy of `p`, and let n be `w * (repeats + 1) + 1`. Then `first` and this copy take at
+-- most `n * longest_time timing` microseconds.
 abbrev pub CommandsAreSentInMicroseconds : Type 0
 CommandsAreSentInMicroseconds =
     (s new : Sending) (commands returned packets : List Packet) (p : Packet) (timing : Timing)

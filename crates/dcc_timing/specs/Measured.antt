@@ -11,10 +11,10 @@ use Rattle.dcc_timing.specs.PacketBits.{AreBits, packet_bits_in}
 use Rattle.dcc_timing.specs.Gaps.{ends_in}
 use Rattle.dcc_timing.specs.KeptGaps.{AreGaps}
 
--- the parts of a `Timings` are the statistics of the list `halves`. The parts are the number of
--- half-bits, their time in microseconds, the tallies by class, the counts of outcomes, and the
--- statistics of packets. `rest` is the state of a framer after `halves`, and `last` are the last
--- 130 half-bits.
+-- the parts of a `Timings` are the statistics of the list `halves`. `counted` is the number of
+-- half-bits, and `microseconds` is their total time. `by_class` are the tallies of the classes,
+-- `by_outcome` are the counts of the outcomes, and `packets` are the statistics of packets. `rest`
+-- is the state of a framer after `halves`, and `last` are the last 130 half-bits.
 pub record AreMeasured (counted microseconds : ℕ) (by_class : Classes) (by_outcome : Outcomes) (packets : Packets)
     (rest : Rest)
     (last halves : List ℕ) : Type 0 where

@@ -10,24 +10,25 @@ use Rattle.dcc_timing.specs.Numbers.{keep_last}
 use Rattle.dcc_timing.specs.Classes.{is_half_of_one, is_half_of_zero}
 use Rattle.dcc_timing.specs.Tallies.{IsTally}
 
--- the end of an outcome that is a packet, and the bytes of the packet. The end is a number of
--- half-bits from the beginning of the list. The result is `None` for any other outcome.
+-- the end of an outcome that is a packet, and the bytes of this packet. The end is the number of
+-- half-bits from the beginning of the list to the last half-bit of the packet. For any other
+-- outcome, the result is `None`.
 abbrev pub packet_at : ℕ × Seen → Option (ℕ × List ℕ)
 packet_at (place, Packet bytes) = Some (place + 1, bytes)
 packet_at (place, Refused fault) = None
 packet_at (place, Nothing) = None
 
--- the packets in the list `halves`, each with the number of half-bits from its beginning to the end
--- of the packet
+-- each packet in the list `halves`, with the number of half-bits from the beginning of `halves` to
+-- the end of the packet
 unfoldable pub packets_in : List ℕ → List (ℕ × List ℕ)
 packets_in halves = filter_map packet_at (seen halves)
 
--- the number of half-bits of a packet with `bytes` bytes. The bits of the packet are ten ones
--- before its start bit, nine bits for each byte, and the end bit.
+-- the number of half-bits of a packet with `bytes` bytes. The packet has ten ones before its start
+-- bit, nine bits for each byte, and the end bit.
 abbrev pub packet_length : ℕ → ℕ
 packet_length bytes = 22 + 18 * bytes
 
--- the items of a list in pairs, without the last item if their number is odd
+-- the items of a list in pairs. If the number of items is odd, the last item is left out.
 unfoldable pub pairs : List ℕ → List (ℕ × ℕ)
 pairs (first ∷ second ∷ halves) = (first, second) ∷ pairs halves
 pairs _ = []
@@ -55,8 +56,9 @@ difference bit = max bit.0 bit.1 - min bit.0 bit.1
 abbrev pub bit_duration : ℕ × ℕ → ℕ
 bit_duration bit = bit.0 + bit.1
 
--- `tallies` are two tallies over `bits`: for each bit that is a one, the difference of its
--- half-bits, and for each bit that is a zero, its duration
+-- `tallies` are two tallies over `bits`. The first tally has, for each bit that is a one, the
+-- difference between its two half-bits. The second tally has, for each bit that is a zero, its
+-- duration.
 pub record AreBits (tallies : Bits) (bits : List (ℕ × ℕ)) : Type 0 where
   pub differences : IsTally tallies.differences (map difference (filter is_one_pair bits))
   pub sums : IsTally tallies.sums (map bit_duration (filter is_zero_pair bits))

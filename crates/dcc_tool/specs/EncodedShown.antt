@@ -26,7 +26,7 @@ to_send how frames = map (λ frame. record { bytes = frame; timing = timing_of h
 abbrev pub halves_to_send : Encode → List (List ℕ) → List ℕ
 halves_to_send how frames = sent_all (to_send how frames)
 
--- the encoding of `frames`, and the line feed that an input appends to a text
+-- the encoding of `frames` by `how`, and then the line feed that an input appends to a text
 abbrev pub closed_encoding : Encode → List (List ℕ) → List ℕ
 closed_encoding how frames = encoding how frames ++ codes "\n"
 
@@ -39,26 +39,26 @@ pub record TakesText (how : Encode) (frames : List (List ℕ)) (text : List ℕ)
   pub halves : length (halves_to_send how frames) ≤ input.halves
   pub bytes : length text < input.bytes
 
--- the encoding of `frames` consists of half-bits, and the input can read this encoding: the input
--- is not in a comment, and its limits allow the encoding
+-- the encoding of `frames` by `how` consists of half-bits. The input can read this encoding: it is
+-- not in a comment, and its limits allow the encoding.
 abbrev pub TakesEncoding : Encode → List (List ℕ) → InputState → Type 0
 TakesEncoding how frames = TakesText how frames (encoding how frames)
 
--- an encoding of `frames` that an input can read is a capture without an error, whose half-bits are
--- exactly the half-bits of `frames`
+-- if an input can read an encoding of `frames`, this encoding is a capture without an error. The
+-- half-bits of the capture are exactly the half-bits of `frames`.
 abbrev pub EncodingsAreCaptures : Type 0
 EncodingsAreCaptures = (how : Encode) (frames : List (List ℕ)) (input : InputState) → TakesEncoding how frames input
     → capture_in input (closed_encoding how frames) ≡ record { said = halves_to_send how frames; fault = None }
 
--- the outcomes in the capture that is the encoding of `frames` are exactly these frames, in order,
--- each at its last half-bit
+-- the outcomes in the capture that encodes `frames` are exactly these frames, in order, each at its
+-- last half-bit
 abbrev pub EncodedFramesAreSeen : Type 0
 EncodedFramesAreSeen = (how : Encode) (frames : List (List ℕ)) (input : InputState) → TakesEncoding how frames input
     → AllFrames (to_send how frames)
     → seen (capture_in input (closed_encoding how frames)).said ≡ at_last_halves 0 (to_send how frames)
 
--- the listing of `frames` was written. The listing has one line for each frame, in order, with the
--- number of the last half-bit of the frame.
+-- the listing of `frames` was written, with packet lines if `words` is true. The listing has one
+-- line for each frame, in order, with the number of the last half-bit of the frame.
 abbrev pub ListsSent : Bool → WriterState → WriterState → List Sent → Type 0
 ListsSent words before after frames =
     (text : List ℕ) × IsListing words (at_last_halves 0 frames) text × Appends before.contents after.contents text

@@ -79,23 +79,25 @@ pub record KeptOr {A : Type 0} (old : Streams) (answer : Result A ToolFault) (ne
     pub cause : ReadHasFailure old.input.fault old.input.failures
     pub reads : old.input.fault ≡ None → fact
 
--- `show` has listed the capture, or `answer` is its error
+-- `show` has listed the capture, with packet lines if `words` is true. If there is an error, it is
+-- `answer`.
 abbrev pub ShowsCapture : Bool → Streams → Result (Unit {0}) ToolFault → Streams → Type 0
 ShowsCapture words old answer new =
     KeptOr old answer new (Shows words old.input old.writer answer new.input new.writer)
 
--- `lost` has listed the packets that are lost in the capture, or `answer` is its error
+-- `lost` has listed the packets that are lost in the capture, with packet lines if `words` is true.
+-- If there is an error, it is `answer`.
 abbrev pub ListsLostOfCapture : Bool → Streams → Result (Unit {0}) ToolFault → Streams → Type 0
 ListsLostOfCapture words old answer new =
     KeptOr old answer new (ListsLost words old.input old.writer answer new.input new.writer)
 
--- `timing` has written the statistics of the capture, or `answer` is its error
+-- `timing` has written the statistics of the capture. If there is an error, it is `answer`.
 abbrev pub TimesCapture : Streams → Result (Unit {0}) ToolFault → Streams → Type 0
 TimesCapture old answer new =
     KeptOr old answer new (Times old.input old.writer answer new.input new.writer)
 
--- `encode` has written the encoding of the packet lines, or the answers of the station if the
--- request has a station
+-- if the request `how` has no station, `encode` has written the encoding of the packet lines. If
+-- the request has a station, `encode` has written the answers of this station.
 pub record WritesPackets (how : Encode) (old : Streams) (answer : Result (Unit {0}) ToolFault) (new : Streams) : Type 0
   where
     pub packets : how.station ≡ None
@@ -104,8 +106,8 @@ pub record WritesPackets (how : Encode) (old : Streams) (answer : Result (Unit {
         (λ sizes. StationText how (idle_sending sizes.0 sizes.1 sizes.2) old.input old.writer answer
         new.input new.writer)
 
--- `encode` creates a requested station before it reads or writes. If the creation fails, `answer`
--- is its error, and nothing was read or written.
+-- if the request `how` has a station, `encode` creates this station before it reads or writes. If
+-- the creation fails, `answer` is its error, and nothing was read or written.
 pub record EncodesLines (how : Encode) (old : Streams) (answer : Result (Unit {0}) ToolFault) (new : Streams) : Type 0
   where
     pub past_limits : (answer ≡ Err (told.Usage usages.BadStation)) ↔ (is_past_limits how.station ≡ true)
@@ -121,8 +123,8 @@ pub record SavesThese (old : InputState) (decoders : List Saved) (new : InputSta
   pub lines : UsedWholeLines old new
   pub possible : All (λ decoder. is_possible decoder ≡ true) decoders
 
--- the decoder text has the error `fault`, or the input stores this error, or `fault` is U6 and an
--- allocation failed. Nothing was written.
+-- if the input stores an error, `fault` is this error. Otherwise `fault` is the error of the
+-- decoder text, or `fault` is U6 and an allocation failed. Nothing was written.
 pub record TextFails (old : Streams) (fault : ToolFault) (new : Streams) : Type 0 where
   pub kept : IfSome old.input.fault (λ kept. (fault ≡ as_tool_fault kept) × (new.input ≡ old.input))
   pub cause : ReadHasFailure old.input.fault old.input.failures
@@ -150,8 +152,8 @@ RunsText old answer new =
     ⊎ ((decoders : List Saved) × (left : InputState) × SavesThese old.input decoders left
     × RunsDecoders decoders left old answer new)
 
--- `readcv` has read the value of `cv` from a decoder with the CVs `cvs`. Without a decoder,
--- `answer` is an error of the last line that was read.
+-- `readcv` has read the value of `cv` from a decoder with the CVs `cvs`. If there is no decoder,
+-- `answer` is the error P10 in the last line that was read.
 abbrev pub ReadsOnTrack : Option (List ℕ) → CvNumber → Streams → Result (Option ℕ) ToolFault → Streams → Type 0
 ReadsOnTrack None cv old answer new =
     (answer ≡ Err (told.Line new.input.lines faults.Word)) × (new.writer ≡ old.writer)

@@ -13,7 +13,7 @@ use Rattle.dcc_send.specs.StationEncoded.{StationText, after_command, refusal}
 use Rattle.dcc_tool.specs.EncodedShown.{ListsSent, TakesText, to_send}
 
 -- a station in state `s` gets a list of requests and goes to state `new`. `frames` are the frames
--- of the packets that the station returns, in order.
+-- of the packets that the station returns for these requests, in order.
 abbrev pub HandsOutFrames : sending.Sending → List Asked → List (List ℕ) → sending.Sending → Type 0
 HandsOutFrames s [] frames new = (frames ≡ []) × (new ≡ s)
 HandsOutFrames s (Command frame ∷ items) frames new =

@@ -29,8 +29,8 @@ is_zero Bad = false
 unfoldable pub halves_used : List Half → ℕ
 halves_used halves = option_map_or (λ p. p.0 - ones_left p.1) (outcome_of halves) (length halves)
 
--- the place in `halves` after the last half-bit that a body uses. The bodies begin at the places of
--- a list in descending order.
+-- the place in `halves` after the last half-bit that a body uses. A list has the places at which
+-- the bodies begin, in descending order. If this list is empty, the result is 0.
 unfoldable pub used_up : List Half → List ℕ → ℕ
 used_up halves [] = 0
 used_up halves (start ∷ earlier) = start + halves_used (drop start halves)
@@ -43,7 +43,8 @@ is_start halves earlier place =
     is_zero (slice_index_or halves place Bad)
     && nat_le 20 (ones_at_end (drop (used_up halves earlier) (take place halves)))
 
--- the places in `halves` below a given place at which a body begins, in descending order
+-- the places in `halves` at which a body begins, in descending order. Only places below a given
+-- place are in the list.
 unfoldable pub starts_below : List Half → ℕ → List ℕ
 starts_below halves zero = []
 starts_below halves (suc place) =
@@ -53,13 +54,13 @@ starts_below halves (suc place) =
 abbrev pub starts : List Half → List ℕ
 starts halves = starts_below halves (length halves)
 
--- the outcome of the body that begins at the place `start` in `halves`, together with the place of
--- its last half-bit, as a list of one element. If the body is unfinished, the list is empty.
+-- a list with the outcome of the body that begins at the place `start` in `halves`, and the place
+-- of the last half-bit of this outcome. If the body is unfinished, the list is empty.
 unfoldable pub outcome_at : List Half → ℕ → List (ℕ × Seen)
 outcome_at halves start =
     option_map_or (λ p. (start + p.0 - 1, p.1) ∷ []) (outcome_of (drop start halves)) []
 
--- the outcomes of the bodies in `halves` that begin at the places of a list. The places are in
+-- the outcomes of those bodies in `halves` that begin at the places of a list. The places are in
 -- descending order, and the outcomes are in ascending order.
 unfoldable pub outcomes_at : List Half → List ℕ → List (ℕ × Seen)
 outcomes_at halves [] = []
@@ -97,8 +98,8 @@ rest_at halves (start ∷ earlier) =
 unfoldable pub rest : List ℕ → Rest
 rest durations = let halves = map class_of durations in rest_at halves (starts halves)
 
--- a list with the outcome of the half-bit at `place`, or an empty list if this half-bit ends no
--- outcome
+-- a list with the outcome of the half-bit at `place`. If this half-bit ends no outcome, the list is
+-- empty.
 unfoldable pub report_at : ℕ → Seen → List (ℕ × Seen)
 report_at place Nothing = []
 report_at place (Packet bytes) = (place, Packet bytes) ∷ []

@@ -11,14 +11,14 @@ use Rattle.dcc_wire.specs.declared.seen.Seen.TheVariants.{Nothing, Packet, Refus
 use Rattle.dcc_wire.specs.Frames.{xor_of}
 use Rattle.dcc_wire.specs.Bodies.{number_of}
 
--- the bits at the beginning of a list of half-bits, up to the first two half-bits that differ or
--- are bad
+-- the bits at the beginning of a list of half-bits. Each bit is a pair of equal half-bits. The bits
+-- end before the first pair of half-bits that differ or are bad.
 unfoldable pub bits_in : List Half → List Bool
 bits_in (One ∷ One ∷ halves) = true ∷ bits_in halves
 bits_in (Zero ∷ Zero ∷ halves) = false ∷ bits_in halves
 bits_in _ = []
 
--- the half-bits of a list after the pairs of half-bits that `bits_in` reads as bits
+-- the half-bits of a list after the half-bits of the bits that `bits_in` returns
 unfoldable pub behind_bits : List Half → List Half
 behind_bits (One ∷ One ∷ halves) = behind_bits halves
 behind_bits (Zero ∷ Zero ∷ halves) = behind_bits halves
@@ -46,9 +46,9 @@ body_outcome bytes =
 unfoldable pub by_bits : List ℕ × Bool → ℕ × Seen
 by_bits p = (18 * length p.0 + 2, if p.1 then body_outcome p.0 else Refused TooLong)
 
--- the outcome of a body and its number of half-bits, or `None` if the body is unfinished. The first
--- `n` half-bits of the body form bits. The next two half-bits, which begin the given list, form no
--- bit.
+-- the outcome of a body, and its number of half-bits. The first `n` half-bits of the body form
+-- bits. The given list has the next half-bits, of which the first two form no bit. If the body is
+-- unfinished, the result is `None`.
 unfoldable pub by_halves : ℕ → List Half → Option (ℕ × Seen)
 by_halves n [] = None
 by_halves n (Bad ∷ halves) = Some (n + 1, Refused BadHalf)
@@ -56,16 +56,16 @@ by_halves n (half ∷ []) = None
 by_halves n (half ∷ Bad ∷ halves) = Some (n + 2, Refused BadHalf)
 by_halves n (half ∷ other ∷ halves) = Some (n + 2, Refused SplitBit)
 
--- the outcome of the body at the beginning of `halves` and its number of half-bits, or `None` if
--- the body is unfinished
+-- the outcome of the body at the beginning of `halves`, and its number of half-bits. If the body is
+-- unfinished, the result is `None`.
 unfoldable pub outcome_of : List Half → Option (ℕ × Seen)
 outcome_of halves =
     option_or
     (option_map by_bits (bytes_in 6 (bits_in halves)))
     (by_halves (2 * length (bits_in halves)) (behind_bits halves))
 
--- the number of half-bits of ones that count for the next preamble after an outcome: 2 if an end
--- bit ends the body, otherwise 0
+-- the number of half-bits of ones that count for the next preamble after an outcome. If an end bit
+-- ends the body, the number is 2, otherwise 0.
 unfoldable pub ones_left : Seen → ℕ
 ones_left Nothing = 0
 ones_left (Packet bytes) = 2

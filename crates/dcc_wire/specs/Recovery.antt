@@ -11,27 +11,30 @@ use Rattle.dcc_wire.specs.Framing.{Rest, Hunting, InBody, rest, seen}
 use Rattle.dcc_wire.specs.Outcomes.{outcome_of}
 use Rattle.dcc_wire.specs.Sending.{Sent, sent_all, at_last_halves, AllFrames}
 
--- the outcome of the unfinished body of a framer if only half-bits of ones follow, and the number
--- of these half-bits that the body uses. The result is `None` if no body is unfinished.
+-- the outcome of an unfinished body of a framer, if only half-bits of ones follow. The result also
+-- has the number of these half-bits that the body uses. If no body is unfinished, the result is
+-- `None`.
 unfoldable pub ended_by_ones : Rest → Option (ℕ × Seen)
 ended_by_ones (Hunting ones) = None
 ended_by_ones (InBody halves) =
     option_map (λ p. (p.0 - length halves, p.1)) (outcome_of (halves ++ replicate 18 One))
 
--- the outcome of the body that is unfinished after `noise` if a preamble follows, and the number of
--- half-bits of the preamble that this body uses. The result is `None` if no body is unfinished.
+-- the outcome of the body that is unfinished after `noise`, if a preamble follows. The result also
+-- has the number of half-bits of this preamble that the body uses. If no body is unfinished, the
+-- result is `None`.
 abbrev pub open_end : List ℕ → Option (ℕ × Seen)
 open_end noise = ended_by_ones (rest noise)
 
--- the outcome of a body that is unfinished when half-bits of ones begin, at the place of its last
--- half-bit. `place` is the number of half-bits before these half-bits of ones.
+-- a list with the outcome of a body that was unfinished after `place` half-bits, and the place of
+-- the last half-bit of this outcome. Half-bits of ones follow after `place` half-bits. If no body
+-- was unfinished, the list is empty.
 unfoldable pub at_open_end : ℕ → Option (ℕ × Seen) → List (ℕ × Seen)
 at_open_end place None = []
 at_open_end place (Some p) = (place + p.0 - 1, p.1) ∷ []
 
--- the packet `first` as an outcome at the place of its last half-bit. The list is empty if an
--- unfinished body ends in the last 18 half-bits of the preamble of `first`, because `first` is lost
--- then.
+-- a list with the packet `first` and the place of its last half-bit. If an unfinished body ends in
+-- the last 18 half-bits of the preamble of `first`, the packet `first` is lost, and the list is
+-- empty.
 unfoldable pub at_first : ℕ → Option (ℕ × Seen) → Sent → List (ℕ × Seen)
 at_first place None first = at_last_halves place (first ∷ [])
 at_first place (Some p) first =
@@ -44,8 +47,9 @@ NoiseCostsNoLaterPacket =
     → seen (noise ++ sent_all (first ∷ others))
     ≡ seen (noise ++ sent_all (first ∷ [])) ++ at_last_halves (length (noise ++ sent_all (first ∷ []))) others
 
--- after noise, at most two outcomes are seen. A body that is unfinished after the noise has an
--- outcome, and the first packet is seen unless it is lost.
+-- after noise and a first packet, the outcomes are those of the noise and at most two more. A body
+-- that is unfinished after the noise has an outcome, and the first packet is seen unless it is
+-- lost.
 abbrev pub NoiseCostsAtMostTheFirst : Type 0
 NoiseCostsAtMostTheFirst =
     (noise : List ℕ) (first : Sent) → IsFrame first.bytes

@@ -18,8 +18,8 @@ abbrev pub IsQuietFor : Rest → Half → Type 0
 IsQuietFor (Hunting ones) half = IsQuiet ones half
 IsQuietFor (InBody halves) half = ⊥
 
--- the number of half-bits of ones, at most 20, after `ones` half-bits of ones and a run of `n`
--- half-bits of class `half` that begins no body
+-- the number of half-bits of ones at the end of a list, at most 20. The list ends with `ones`
+-- half-bits of ones, and then a run of `n` half-bits of class `half`, which begins no body.
 unfoldable pub ones_after : ℕ → Half → ℕ → ℕ
 ones_after ones half zero = ones
 ones_after ones One (suc n) = min 20 (ones + suc n)
@@ -31,9 +31,9 @@ unfoldable pub rest_after_run : Rest → Half → ℕ → Rest
 rest_after_run (Hunting ones) half n = Hunting (ones_after ones half n)
 rest_after_run (InBody halves) half n = InBody halves
 
--- a framer in state `old` that takes `n` half-bits of `us` microseconds goes to state `new` and
--- returns `shown`. `shown` has the first outcome in the run and the number of its last half-bit, or
--- `Nothing`.
+-- a framer in state `old` takes `n` half-bits of `us` microseconds, goes to state `new` and returns
+-- `shown`. `shown` has the first outcome in the run, and the number of its last half-bit. If the
+-- run has no outcome, `shown` has `Nothing`.
 pub record PushesRun (old : Rest) (us n : ℕ) (shown : RunSeen) (new : Rest) : Type 0 where
   pub stands : (durations : List ℕ) → StandsFor old durations → StandsFor new (durations ++ replicate n us)
   pub sees : (durations : List ℕ) → StandsFor old durations

@@ -14,8 +14,9 @@ use Rattle.dcc_regs.specs.FunctionBits.{first_function}
 use Rattle.dcc_regs.specs.Writes.{writes_mode}
 use Rattle.dcc_station.specs.Commands.{is_refreshed}
 
--- true if a command keeps the direction `forward` of an entry: the command sets this direction, or
--- the first argument is `None` and the command sets no direction
+-- true if a command keeps the direction `forward` of an entry. The first argument is the direction
+-- that the command sets, and must equal `forward`. If the command sets no direction, the first
+-- argument is `None`.
 abbrev pub way_kept : Option Bool → Bool → Bool
 way_kept None forward = true
 way_kept (Some true) forward = forward
@@ -36,16 +37,16 @@ reset_kept (Speed128 forward bits) = forward && (bits.bits == 0)
 reset_kept (Functions bits) = bits.bits == 0
 reset_kept what = true
 
--- true if an entry stays after a command with the function group `set`: the entry sets no function
--- group, or another function group. If `one` is false, the command is for all locomotives, and the
--- same group with the same bits stays too.
+-- true if an entry stays after a command with the function group `set`. An entry without a function
+-- group stays, and an entry with another function group stays. If `one` is false, the command is
+-- for all locomotives. Then an entry with the same group and the same bits stays too.
 abbrev pub group_kept : Bool → GroupBits → What → Bool
 group_kept one set (Functions bits) =
     not (first_function set.group == first_function bits.group) || (not one && (set.bits == bits.bits))
 group_kept one set what = true
 
--- true if `entry` stays after a speed command of 28 steps with `bits` to all decoders. Such a
--- command takes effect only if it is a stop.
+-- true if `entry` stays after a speed command of 28 steps to all decoders. The command has the
+-- direction `forward` and the speed bits `bits`. It takes effect only if it is a stop.
 abbrev pub stop_kept : Bool → ℕ → What → Bool
 stop_kept forward bits entry =
     not (nat_lt bits 4) || speed_kept (bits / 2) (if bits == 0 || bits == 2 then Some forward else None) entry
@@ -58,8 +59,8 @@ kept_by_all (Speed128 forward bits) entry = speed_kept bits.bits (Some forward) 
 kept_by_all (Functions bits) entry = group_kept false bits entry
 kept_by_all what entry = true
 
--- true if `entry` stays after a command to its locomotive. The result is `None` if the entry and
--- the command both set the speed, since this definition does not decide that case.
+-- true if `entry` stays after a command to its locomotive. If the entry and the command both set
+-- the speed, this definition does not decide the case, and the result is `None`.
 abbrev pub kept_by_one : What → What → Option Bool
 kept_by_one Reset entry = Some (reset_kept entry)
 kept_by_one (Functions bits) entry = Some (group_kept true bits entry)
@@ -69,8 +70,8 @@ kept_by_one (Speed128 forward bits) (Functions others) = Some true
 kept_by_one (Speed128 forward bits) entry = None
 kept_by_one what entry = Some (not (writes_mode what))
 
--- true if the instruction `entry` to the locomotive `own` stays after the instruction `what`. The
--- result is `None` if both instructions set the speed of one locomotive.
+-- true if the instruction `entry` to the locomotive `own` stays after the instruction `what` to the
+-- address `to`. The result is `None` if both instructions set the speed of one locomotive.
 abbrev pub kept_of : Address → What → Address → What → Option Bool
 kept_of Broadcast what own entry = Some (kept_by_all what entry)
 kept_of to what own entry = if same_address own to then kept_by_one what entry else Some true
