@@ -55,7 +55,7 @@ StopsBoth before old fault new =
     Stops (λ used. (end : ℕ) → both_from before old end used (Some Read) ≡ fault_alone Read)
     (λ text. in_limit (both_from before old) old text ≡ fault_alone fault) old fault new
 
--- the input read some half-bits of the first capture. Its next word is a run of more half-bits than
+-- the input read some half-bits of the first capture. The next word is a run of more half-bits than
 -- the limit still allows.
 pub record FirstRunsOver (before : ℕ) (old new : InputState) : Type 0 where
   pub halves : List ℕ

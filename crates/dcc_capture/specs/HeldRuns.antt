@@ -22,8 +22,8 @@ abbrev pub HoldsLines : {A : Type 0} → (ℕ → A → List ℕ → Type 0) →
 HoldsLines IsLineOf items before held result left after =
     (text : List ℕ) × AreLines IsLineOf items text × HoldsOrFails before (held ++ text) result left after
 
--- there are two cases. Either all buffered bytes `held` were written, and `result` is `answer`. Or
--- a write failed or wrote no byte, a prefix of `held` was written, and `result` is the error U5.
+-- either all buffered bytes `held` were written, and `result` is `answer`, or a prefix of `held`
+-- was written, and `result` is the error U5. In the second case, a write failed or wrote no byte.
 abbrev pub WritesRest : WriterState → List ℕ → Result (Unit {0}) ToolFault → Result (Unit {0}) ToolFault → WriterState
     → Type 0
 WritesRest before held answer result after =

@@ -35,8 +35,8 @@ abbrev pub closing : Bool → ℕ
 closing closed = if closed then 0 else 1
 
 -- the bytes that an input still reads, if its reader has the bytes `coming`. If `closed` is false,
--- they are `coming` and then a line feed. If `closed` is true, this line feed was already read, and
--- the list is empty.
+-- the list is `coming` and then a line feed. If `closed` is true, this line feed was already read,
+-- and the list is empty.
 abbrev pub closed_text : Bool → Option (List ℕ) → Option (List ℕ)
 closed_text closed coming = option_map (λ bytes. if closed then [] else bytes ++ 10 ∷ []) coming
 

@@ -78,8 +78,8 @@ abbrev pub OverflowsInLine : InputState → InputState → Type 0
 OverflowsInLine old new = OverflowsBehind IsOneLine old new × (new.fault ≡ Some TooMuch) × LinesAt old TooMuch new
 
 -- the result is the next line with its number, or `None` at the end of the text, or an error. The
--- error is U3 for an invalid line. It is U4 if a read failed within the line, and U7 if the limit
--- of bytes ended within the line.
+-- error is U3 for an invalid line, U4 if a read failed within the line, and U7 if the limit of
+-- bytes ended within the line.
 abbrev pub AnswersLine : InputState → Result (Option TextLine) KeptFault → InputState → Type 0
 AnswersLine old (Ok (Some line)) new = ReadsLine old line.number line.text.bytes new
 AnswersLine old (Ok None) new = EndsText old new

@@ -41,8 +41,8 @@ behind_line saying line rest =
     else if is_skipped line.bytes then rest
     else behind_words saying line.number (saying.said (words line.bytes)) rest
 
--- the result for a last line `line` without a line feed. It has no items. Its error is P10 if
--- `line` is invalid, otherwise `last`.
+-- the result for a last line `line` without a line feed. The result has no items. Its error is P10
+-- if `line` is invalid, otherwise `last`.
 abbrev pub open_line : {A : Type 0} → NumberedLine → Option KeptFault → Items A
 open_line line last =
     if is_good line.bytes then only_fault last else only_fault (Some (kept.Line line.number faults.Word))

@@ -73,8 +73,8 @@ pub record UsesLines (old new : InputState) (text rest : List ℕ) : Type 0 wher
   pub lines : new.lines ≡ lines_up_to old used
 
 -- the input has read the lines up to an error. For U2 and U3, the last of these lines is the line
--- that the error names. For U4, they are the lines of the bytes before the failed read. For U7,
--- they are the lines of the bytes that the limit allows.
+-- that the error names. For U4, the input has read the lines of the bytes before the failed read.
+-- For U7, it has read the lines of the bytes that the limit allows.
 abbrev pub LinesAt : InputState → KeptFault → InputState → Type 0
 LinesAt old (Number line) new = IfSome old.text (λ text. new.lines ≡ line)
 LinesAt old (Line line fault) new = IfSome old.text (λ text. new.lines ≡ line)

@@ -53,8 +53,8 @@ outcome_lines outcomes =
     ++ figure_line (codes "refused") (codes " H4 ") (Some (count_by (is_refused 4) outcomes))
     ++ figure_line (codes "refused") (codes " H5 ") (Some (count_by (is_refused 5) outcomes))
 
--- the lines of ones and zeros. They have the statistics of the half-bits `halves` and of `bits`,
--- which are the bits of packets, and the limits of NMRA S-9.1.
+-- the lines of ones and zeros. The lines have the statistics of the half-bits `halves`, the
+-- statistics of the bits `bits` of packets, and the limits of NMRA S-9.1.
 unfoldable pub bit_lines : List ℕ → List (ℕ × ℕ) → List ℕ
 bit_lines halves bits =
     tally_lines (codes "ones") (filter is_half_of_one halves) ++ codes "ones station 55 61\nones decoder 52 64\n"

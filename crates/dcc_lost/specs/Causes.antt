@@ -46,8 +46,8 @@ short_preamble ones unused since =
     else None
 
 -- The lost packet with the frame `frame` and the causes of its loss. The list `durations` ends with
--- the body of this packet. Its half-bits, and at most 20 half-bits of ones directly before the
--- body, are compared with the limits of a decoder.
+-- the body of this packet. The half-bits of the body, and at most 20 half-bits of ones directly
+-- before the body, are compared with the limits of a decoder.
 unfoldable pub with_causes : List ℕ → List ℕ → LostPacket
 with_causes durations frame =
     let body = 18 * length frame + 2 in

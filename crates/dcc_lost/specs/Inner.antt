@@ -7,15 +7,15 @@ use Rattle.dcc_wire.specs.declared.seen.Seen.TheVariants.{Nothing, Packet, Refus
 use Rattle.dcc_wire.specs.Outcomes.{ones_left}
 use Rattle.dcc_lost.specs.Nearest.{nearest_class}
 
--- the new number of unused half-bits at the end of a list. One half-bit was appended to the list,
--- and a framer returned the given outcome for it. The old number was `unused`.
+-- the new number of unused half-bits at the end of a list, to which one half-bit was appended. A
+-- framer returned the given outcome for this half-bit. The old number was `unused`.
 unfoldable pub unused_next : ℕ → Seen → ℕ
 unused_next unused Nothing = min 20 (unused + 1)
 unused_next unused (Packet bytes) = ones_left (Packet bytes)
 unused_next unused (Refused fault) = ones_left (Refused fault)
 
--- the new number of half-bits after the last refusal in a list. One half-bit was appended to the
--- list, and a framer returned the given outcome for it. The old number was `since`.
+-- the new number of half-bits after the last refusal in a list, to which one half-bit was appended.
+-- A framer returned the given outcome for this half-bit. The old number was `since`.
 unfoldable pub since_next : Option ℕ → Seen → Option ℕ
 since_next since Nothing = option_map (λ n. min 255 (n + 1)) since
 since_next since (Packet bytes) = None

@@ -18,13 +18,13 @@ use Rattle.dcc_order.specs.GivenLists.{Lists, IsVerdictOfAll}
 abbrev pub nothing_heard : LastHeard
 nothing_heard = record { packet = None; is_second = false }
 
--- the `LastHeard` of a list after one more packet `p`. It stores `p`, and true if the packet before
--- `p` equals `p`. `before` is the `LastHeard` of the list without `p`.
+-- the `LastHeard` of a list after one more packet `p`: the packet `p`, and true if the packet
+-- before `p` equals `p`. `before` is the `LastHeard` of the list without `p`.
 abbrev pub heard_next : LastHeard → Packet → LastHeard
 heard_next before p = record { packet = Some p; is_second = is_repeated before.packet p }
 
--- the `LastHeard` of the list `packets`. It stores the last packet, and true if the packet before
--- the last packet equals the last packet.
+-- the `LastHeard` of the list `packets`: the last packet, and true if the packet before the last
+-- packet equals the last packet
 abbrev pub last_heard : List Packet → LastHeard
 last_heard packets = fold heard_next nothing_heard packets
 

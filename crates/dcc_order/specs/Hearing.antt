@@ -29,8 +29,8 @@ AreSpelled packets frames = map spelling packets ≡ frames
 abbrev pub ArePackets : List Packet → List ℕ → Type 0
 ArePackets packets halves = AreSpelled packets (frames_among (seen halves))
 
--- between the registers `start` and `now`, a decoder with identity `who` has heard the packets in
--- the half-bits `halves`. Its identity `who'` after these half-bits is the identity before them.
+-- a decoder with identity `who` and registers `start` has heard the packets in the half-bits
+-- `halves`. The decoder then has the identity `who'` and the registers `now`.
 pub record HasHeardHalves (halves : List ℕ) (who : Who) (start : RegisterMap) (who' : Who) (now : RegisterMap) : Type 0
   where
     pub packets : List Packet

@@ -56,8 +56,9 @@ NoiseBetweenBodiesCostsNoPacket =
     (noise : List ℕ) (ones : ℕ) (before : List Packet) (sent : List SentPacket) → rest noise ≡ Hunting ones
     → ArePackets before noise → ArePackets (before ++ packets_of_sent sent) (noise ++ halves_of_sent sent)
 
--- a decoder hears noise, and then the half-bits of the packets `first` and `others`. Its registers
--- are then the result of a list of packets `all` for which `CanBeHeardAfterNoise` holds.
+-- let a decoder hear noise, and then the half-bits of the packets `first` and `others`. The
+-- registers of the decoder are then the result of a list of packets `all` for which
+-- `CanBeHeardAfterNoise` holds.
 abbrev pub DecodersHearPacketsAfterNoise : Type 0
 DecodersHearPacketsAfterNoise =
     (noise : List ℕ) (first : SentPacket) (others : List SentPacket) (who who' : Who) (start now : RegisterMap)

@@ -73,8 +73,8 @@ abbrev pub effective_set : Option Value → Packet → ℕ → ℕ → Option Va
 effective_set held p cv place = if is_effective held p then option_map Flag (bit_set p cv place) else None
 
 -- bit `place` of CV `cv` after a decoder has heard the packets `l`. The bit has the value of its
--- last write in `l` that took effect. If there is no such write, the bit has its value in `start`,
--- the registers before `l`.
+-- last write in `l` that took effect. If there is no such write, the bit has its value in the
+-- registers `start` before `l`.
 abbrev pub cv_bit_after : RegisterMap → List Packet → ℕ → ℕ → Option Value
 cv_bit_after start l cv place =
     set_in_turn (start (CvBit cv place))
@@ -89,9 +89,10 @@ mode_of held = Steps14
 abbrev pub mode_after : RegisterMap → List Packet → SpeedMode
 mode_after start l = mode_of (cv_bit_after start l 29 1)
 
--- the plain register `r` after a decoder has heard the packets `l`. It has the last value to which
--- a packet of `l` sets it. If no packet sets it, it has its value in `start`, the registers before
--- `l`. Each packet is read in the speed mode that the decoder has before this packet.
+-- the plain register `r` after a decoder has heard the packets `l`. The register has the last value
+-- to which a packet of `l` sets it. If no packet sets it, the register has its value in the
+-- registers `start` before `l`. Each packet is read in the speed mode that the decoder has before
+-- this packet.
 abbrev pub plain_after : RegisterMap → List Packet → Register → Option Value
 plain_after start l r = set_in_turn (start r) (filter_map (λ at. sets (mode_after start at.0) at.1 r) (places l))
 

@@ -17,11 +17,12 @@ pub data Stop : Type 0 where
   refused : ℕ → PacketFault → Stop
   -- the text ends before the line with this number ends
   cut : ℕ → Stop
-  -- a decoder exceeds the limit of decoders. This number is the number of its first line plus one.
+  -- a decoder exceeds the limit of decoders. The number is the number of the first line of this
+  -- decoder plus one.
   too_many : ℕ → Stop
 
--- a reader: a function that gets a text. It returns a value and the text after it, or the reason
--- why the reader stops.
+-- a reader: a function from a text to a value and the rest of the text. If the reader stops, the
+-- function returns the reason.
 abbrev pub Reader : Type 0 → Type 0
 Reader A = Text → Result (A × Text) Stop
 

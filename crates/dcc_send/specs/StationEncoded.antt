@@ -59,8 +59,8 @@ AnswersAll how s (item ∷ later) bytes new =
     (between : sending.Sending) × (first rest : List ℕ) × (bytes ≡ first ++ rest) × Answers how s item first between
     × AnswersAll how between later rest new
 
--- a station in state `s` that gets the requests `items` goes to state `new`. Its answers to these
--- requests were written.
+-- a station in state `s` that gets the requests `items` goes to state `new`. The answers of the
+-- station to these requests were written.
 pub record Wrote (how : Encode) (s : sending.Sending) (items : List Asked) (new : sending.Sending)
     (before after : WriterState) : Type 0 where
   pub bytes : List ℕ

@@ -72,8 +72,8 @@ CommandsWaitForFewPackets =
     → (rest : List Packet) × (packets ≡ copies_left s s.waiting ++ p ∷ rest)
     × (length (copies_left s s.waiting) ≤ length s.waiting * (s.repeats + 1))
 
--- each packet has at most `2 * (preamble + 55)` half-bits. It consists of the preamble, 6 bytes of
--- 9 bits each, and the end bit.
+-- each packet has at most `2 * (preamble + 55)` half-bits: those of the preamble, of 6 bytes with 9
+-- bits each, and of the end bit
 abbrev pub SentPacketsAreShort : Type 0
 SentPacketsAreShort =
     (timing : Timing) (packets : List Packet) → AllByRecursion BytesFit packets

@@ -79,19 +79,18 @@ pub record KeptOr {A : Type 0} (old : Streams) (answer : Result A ToolFault) (ne
     pub cause : ReadHasFailure old.input.fault old.input.failures
     pub reads : old.input.fault ≡ None → fact
 
--- `show` has listed the capture, with packet lines if `words` is true. If there is an error, it is
--- `answer`.
+-- `show` has listed the capture, with packet lines if `words` is true, or `answer` is its error
 abbrev pub ShowsCapture : Bool → Streams → Result (Unit {0}) ToolFault → Streams → Type 0
 ShowsCapture words old answer new =
     KeptOr old answer new (Shows words old.input old.writer answer new.input new.writer)
 
--- `lost` has listed the packets that are lost in the capture, with packet lines if `words` is true.
--- If there is an error, it is `answer`.
+-- `lost` has listed the packets that are lost in the capture, with packet lines if `words` is true,
+-- or `answer` is its error
 abbrev pub ListsLostOfCapture : Bool → Streams → Result (Unit {0}) ToolFault → Streams → Type 0
 ListsLostOfCapture words old answer new =
     KeptOr old answer new (ListsLost words old.input old.writer answer new.input new.writer)
 
--- `timing` has written the statistics of the capture. If there is an error, it is `answer`.
+-- `timing` has written the statistics of the capture, or `answer` is its error
 abbrev pub TimesCapture : Streams → Result (Unit {0}) ToolFault → Streams → Type 0
 TimesCapture old answer new =
     KeptOr old answer new (Times old.input old.writer answer new.input new.writer)

@@ -25,9 +25,9 @@ ended_by_ones (InBody halves) =
 abbrev pub open_end : List ℕ → Option (ℕ × Seen)
 open_end noise = ended_by_ones (rest noise)
 
--- a list with the outcome of a body that was unfinished after `place` half-bits, and the place of
--- the last half-bit of this outcome. Half-bits of ones follow after `place` half-bits. If no body
--- was unfinished, the list is empty.
+-- a body is unfinished after `place` half-bits, and then half-bits of ones follow. The result is a
+-- list with the outcome of this body, and the place of the last half-bit of this outcome. If no
+-- body is unfinished, the list is empty.
 unfoldable pub at_open_end : ℕ → Option (ℕ × Seen) → List (ℕ × Seen)
 at_open_end place None = []
 at_open_end place (Some p) = (place + p.0 - 1, p.1) ∷ []

@@ -31,8 +31,8 @@ pub record HeldTook (start now packets : List Packet) (ended : Bool) : Type 0 wh
   pub whole : start ≡ packets ++ now
   pub all : MayFollow ended now
 
--- the packets `packets` of a source were read. Then all its remaining packets were read, and
--- `progress` is the state of the reading after them. If `ended` is true, there were no remaining
+-- the packets `packets` of a source were read, and then all its remaining packets. After all
+-- packets, the state of the reading is `progress`. If `ended` is true, there were no remaining
 -- packets.
 pub record TakesRest (Took : List Packet → Progress → Type 0) (packets : List Packet) (ended : Bool)
     (progress : Progress)

@@ -46,7 +46,7 @@ group_kept one set (Functions bits) =
 group_kept one set what = true
 
 -- true if `entry` stays after a speed command of 28 steps to all decoders. The command has the
--- direction `forward` and the speed bits `bits`. It takes effect only if it is a stop.
+-- direction `forward` and the speed bits `bits`, and takes effect only if it is a stop.
 abbrev pub stop_kept : Bool → ℕ → What → Bool
 stop_kept forward bits entry =
     not (nat_lt bits 4) || speed_kept (bits / 2) (if bits == 0 || bits == 2 then Some forward else None) entry
