@@ -16,7 +16,7 @@ bytes_back bytes = take-append_seam bytes (replicate (6 - length bytes) 0)
 abbrev pub packet_of : Inside → Packet
 packet_of k = k.says.0
 
--- the C structure `k` has the bytes of a frame, or no bytes. All bytes after them are zeros.
+-- the C structure `k` has the bytes of a frame, or no bytes. All further bytes are zeros.
 abbrev pub IsKeptPacket : Inside → Type 0
 IsKeptPacket k = ((bytes_of k.frame ≡ []) ⊎ IsFrame (bytes_of k.frame)) × (k.frame ≡ frame_numbers (bytes_of k.frame))
 

@@ -12,9 +12,9 @@ use Rattle.dcc_tool.specs.PacketLines.{packet_lines}
 abbrev pub frames_said : List ℕ → List (List ℕ)
 frames_said lines = (in_text packet_lines (fresh (Some lines) 0 16777216 67108864) (lines ++ 10 ∷ [])).said
 
--- let the half-bits of the frames that `lines` mean be at most 16,777,216, and their encoding at
--- most 67,108,864 bytes, which `show` can read. Then `listing` has one line for each frame, at the
--- last half-bit of the frame.
+-- the limits of `show` are 16,777,216 half-bits and 67,108,864 bytes. If the encoding of the frames
+-- that `lines` mean is within these limits, `listing` has one line for each frame, at the last
+-- half-bit of the frame.
 abbrev pub IsListingOf : List ℕ → List ℕ → Type 0
 IsListingOf lines listing = length (halves_to_send in_half_bits (frames_said lines)) ≤ 16777216
     → length (encoding in_half_bits (frames_said lines)) ≤ 67108864

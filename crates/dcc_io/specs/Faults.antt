@@ -22,9 +22,9 @@ as_tool_fault (kept.Line line fault) = Line line fault
 as_tool_fault kept.Read = Read
 as_tool_fault kept.TooMuch = TooMuch
 
--- the property that holds after an error of a function. After a stored error of its input it is
--- `stopped`, after a failed write `unwritten`, and after a failed allocation `no_memory`. The
--- function does not return U1.
+-- the property that holds after an error of a function: `stopped` after a stored error of its
+-- input, `unwritten` after a failed write, `no_memory` after a failed allocation. The function does
+-- not return U1.
 abbrev pub ErrorPost : (KeptFault → Type 0) → Type 0 → Type 0 → ToolFault → Type 0
 ErrorPost stopped unwritten no_memory (Number line) = stopped (kept.Number line)
 ErrorPost stopped unwritten no_memory (Line line fault) = stopped (kept.Line line fault)

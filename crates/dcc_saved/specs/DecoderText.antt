@@ -19,9 +19,8 @@ use Rattle.dcc_saved.specs.DecoderLines.{version_line, head_line, speed_line, nu
 use Rattle.dcc_saved.specs.DecoderLines.{loco_line, Four, listed, positions_line, aspects_line}
 use Rattle.dcc_saved.specs.TextReader.{Reader, ◌>>=◌, done, stop_at_decoder, line_by}
 
--- the reader after one of the lines among the CVs. If the line is `cv CV VALUE`, the value of the
--- CV is set in `cvs`, and the reader `again` continues with the next line. Any other line ends the
--- CVs.
+-- the reader that goes on after a line. If this line is `cv CV VALUE`, the value of the CV is set
+-- in `cvs`, and the reader `again` reads the next line. Any other line ends the lines of CVs.
 abbrev pub behind_loco_line : (ℕ → List ℕ → Reader (List ℕ × Head)) → List ℕ → LocoLine → Reader (List ℕ × Head)
 behind_loco_line again cvs (behind.Cv cv value) = again (cv.number + 1) (slice_set cvs (cv.number - 1) value)
 behind_loco_line again cvs (behind.Head head) = done (cvs, head)

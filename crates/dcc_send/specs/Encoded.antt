@@ -30,11 +30,11 @@ abbrev pub frame_line : Encode → List ℕ → List ℕ
 frame_line how frame =
     (if how.hex then encode_lower frame else spaced_numbers (sent frame (timing_of how))) ++ codes "\n"
 
--- the encoding of `frames` by `how`: one line for each frame, in order
+-- the lines of `frames` in the encoding `how`: one line for each frame, in order
 abbrev pub encoding : Encode → List (List ℕ) → List ℕ
 encoding how frames = flat_map (frame_line how) frames
 
--- the encoding of `frames` by `how` was written
+-- the lines of `frames` in the encoding `how` were written
 abbrev pub Encodes : Encode → WriterState → WriterState → List (List ℕ) → Type 0
 Encodes how before after frames = Appends before.contents after.contents (encoding how frames)
 

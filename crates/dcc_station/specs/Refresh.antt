@@ -33,15 +33,15 @@ LeaveTheSameButPending who left right =
     → result who start left register ≡ result who start right register
 
 -- let the station have sent no copy of any command in its queue. Then each decoder has the same
--- registers, except Pending, after the returned packets as after the commands that have left the
--- queue.
+-- registers, except Pending, after the returned packets as after the packets `intended done`.
+-- `done` are the commands that have left the queue.
 abbrev pub RefreshIsTransparent : Type 0
 RefreshIsTransparent =
     (s : Sending) (done packets : List Packet) → StationRepresents s (done ++ s.waiting) packets → s.sent ≡ 0 →
     (who : Who) → LeaveTheSameButPending who packets (intended done)
 
 -- if no command waits, each decoder has the same registers, except Pending, after the returned
--- packets as after all accepted commands
+-- packets as after the packets `intended commands`. `commands` are all accepted commands.
 abbrev pub TransparentWhereNothingWaits : Type 0
 TransparentWhereNothingWaits =
     (s : Sending) (commands packets : List Packet) → StationRepresents s commands packets → s.waiting ≡ [] →
@@ -93,7 +93,7 @@ OneMoreAccepted = (s new : Sending) (commands : List Packet) (p : Packet) (who w
     → HasHeardStation new (commands ++ p ∷ []) who start who' now
 
 -- let no command wait, and let a decoder have heard all packets that the station has returned. Then
--- each register except Pending has its value after the packets `intended` by the commands.
+-- each register except Pending has its value in `result who start (intended commands)`.
 abbrev pub HeardIsIntended : Type 0
 HeardIsIntended = (s : Sending) (commands : List Packet) (who who' : Who) (start now : RegisterMap)
     (register : Register)

@@ -26,7 +26,8 @@ to_send how frames = map (λ frame. record { bytes = frame; timing = timing_of h
 abbrev pub halves_to_send : Encode → List (List ℕ) → List ℕ
 halves_to_send how frames = sent_all (to_send how frames)
 
--- the encoding of `frames` by `how`, and then the line feed that an input appends to a text
+-- the lines of `frames` in the encoding `how`, and then the line feed that an input appends to a
+-- text
 abbrev pub closed_encoding : Encode → List (List ℕ) → List ℕ
 closed_encoding how frames = encoding how frames ++ codes "\n"
 
@@ -39,8 +40,8 @@ pub record TakesText (how : Encode) (frames : List (List ℕ)) (text : List ℕ)
   pub halves : length (halves_to_send how frames) ≤ input.halves
   pub bytes : length text < input.bytes
 
--- the encoding of `frames` by `how` consists of half-bits. The input can read this encoding: it is
--- not in a comment, and its limits allow the encoding.
+-- the lines of `frames` in the encoding `how` consist of half-bits. The input can read these lines:
+-- it is not in a comment, and its limits allow the lines.
 abbrev pub TakesEncoding : Encode → List (List ℕ) → InputState → Type 0
 TakesEncoding how frames = TakesText how frames (encoding how frames)
 

@@ -29,8 +29,9 @@ is_zero Bad = false
 unfoldable pub halves_used : List Half → ℕ
 halves_used halves = option_map_or (λ p. p.0 - ones_left p.1) (outcome_of halves) (length halves)
 
--- the place in `halves` after the last half-bit that a body uses. A list has the places at which
--- the bodies begin, in descending order. If this list is empty, the result is 0.
+-- the place in `halves` after the last half-bit that a body uses. The second argument is the list
+-- of the places at which the bodies begin, in descending order. If this list is empty, the result
+-- is 0.
 unfoldable pub used_up : List Half → List ℕ → ℕ
 used_up halves [] = 0
 used_up halves (start ∷ earlier) = start + halves_used (drop start halves)
