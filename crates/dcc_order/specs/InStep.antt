@@ -37,8 +37,8 @@ ends_wanted Left = 2
 ends_wanted Right = 1
 ends_wanted (Done verdict) = 0
 
--- an upper bound of the number of packets and ends that the comparer `c` still gets of the lists
--- `left` and `right`
+-- an upper bound for the number of packets and ends of the lists `left` and `right` that the
+-- comparer `c` still gets
 abbrev pub requests_bound : List Packet → List Packet → Comparison → ℕ
 requests_bound left right c = 2 * (length left - c.left_given + (length right - c.right_given)) + ends_wanted c.wants
 

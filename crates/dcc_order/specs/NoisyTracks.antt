@@ -1,5 +1,5 @@
--- Theorems about packets that are sent after noise, which is any list of half-bits, and about
--- half-bits that are measured with an error.
+-- Theorems about packets after noise, and about half-bits that are measured with an error. Noise is
+-- any list of half-bits.
 use Rattle.std.specs.Prelude.{◌≡◌, ◌≤◌, ◌<◌, ◌⊎◌, ◌↔◌, ℕ, ◌+◌, true, false, is_some, List, [], ◌∷◌, ◌++◌, length, map}
 use Rattle.std.specs.Prelude.{replicate}
 use Rattle.std.specs.List.{list_any}
@@ -65,8 +65,8 @@ DecodersHearPacketsAfterNoise =
     → HasHeardHalves (noise ++ halves_of_sent (first ∷ others)) who start who' now
     → (all : List Packet) × CanBeHeardAfterNoise noise first others all × (now ≡ result who start all)
 
--- half-bits that are measured with an error of at most 3 microseconds contain exactly the packets
--- that are sent
+-- let each half-bit of the packets `sent` be measured with an error of at most 3 microseconds. The
+-- measured half-bits contain exactly these packets.
 abbrev pub MeasuredPacketsAreHeard : Type 0
 MeasuredPacketsAreHeard =
     (sent : List SentPacket) (measured : List ℕ) → AreWithin 3 (halves_of_sent sent) measured

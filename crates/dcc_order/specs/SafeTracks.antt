@@ -21,8 +21,8 @@ StandingLocoStandsOnTrack =
     → HasHeardHalves halves who start who' now → list_any can_move (heard who packets) ≡ false
     → is_standing (start SpeedRegister) ≡ true → is_standing (now SpeedRegister) ≡ true
 
--- let the speed in the registers `start` be a stop, and let the decoder hear in `halves` no speed
--- packet to its own address and no speed packet of 128 steps to all locomotives. Then the speed is
+-- let the speed in the registers `start` be a stop. Let the decoder hear in `halves` no speed
+-- packet to its own address, and no speed packet of 128 steps to all locomotives. Then the speed is
 -- a stop after `halves`.
 abbrev pub OnlySpeedPacketsOfTrackMove : Type 0
 OnlySpeedPacketsOfTrackMove =

@@ -54,8 +54,8 @@ NoPacketHasCome {L} told =
     → ((frame : Frame) → answer ≡ PacketSeen frame → ⊥)
     → HaveCome told (take (n + 1) track) next who start who' now listener listener'
 
--- after a half-bit that completes a packet that the decoder hears, the decoder has heard the packet
--- and the listener was notified of this packet
+-- let a half-bit complete a packet, and let the decoder hear this packet. Then the decoder has
+-- heard the packet, and the listener was notified of it.
 abbrev pub PacketIsTold : {L : Type 0} → (L → Note → L → Type 0) → Type 0
 PacketIsTold {L} told =
     (track : List ℕ) (n : ℕ) (framer next : Rest) (answer : Seen) (frame : Frame) (p : Packet)
@@ -68,8 +68,8 @@ PacketIsTold {L} told =
     → is_heard ≡ true → told listener' (note_of p) listener''
     → HaveCome told (take (n + 1) track) next who start who'' after listener listener''
 
--- after a half-bit that completes a packet that the decoder does not hear, the listener is
--- unchanged
+-- let a half-bit complete a packet, and let the decoder not hear this packet. Then the listener is
+-- unchanged.
 abbrev pub PacketIsPassedOver : {L : Type 0} → (L → Note → L → Type 0) → Type 0
 PacketIsPassedOver {L} told =
     (track : List ℕ) (n : ℕ) (framer next : Rest) (answer : Seen) (frame : Frame) (p : Packet)

@@ -1,6 +1,6 @@
 -- How a packet and another packet, its rival, alternate in a block. The alternation has two values:
--- the number of turns, and true if the rival took the last turn. A turn is a sequence of
--- occurrences of one of the two packets with no occurrence of the other packet between them.
+-- the number of turns, and true if the rival took the last turn. A turn consists of occurrences of
+-- one of the two packets, without an occurrence of the other packet between them.
 use Rattle.std.specs.Prelude.{ℕ, ◌+◌, ◌≡◌, ◌<◌, slice_index_or, ◌||◌, ◌==◌, true, false, List, [], ◌∷◌, Option, Some}
 use Rattle.std.specs.Prelude.{fold, length, if◌then◌else◌}
 use Rattle.dcc_packet.specs.declared.packet.Packet.{Packet}

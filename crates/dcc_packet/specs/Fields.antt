@@ -1,6 +1,6 @@
 -- Fields of packet lines. A field is a sequence of words of a line. The definition of a field has
--- the values that the field can have, a rule that parses its words, and a rule that writes its
--- words.
+-- three parts: the possible values of the field, a rule that parses its words, and a rule that
+-- writes its words.
 use Rattle.std.specs.Prelude.{◌≡◌, ℕ, ◌≤◌, ◌<◌, ◌==◌, nat_le, ◌&&◌, not, Bool, true, List, [], ◌∷◌, ◌++◌, length}
 use Rattle.std.specs.Prelude.{Result, Ok, Err}
 use Rattle.std.specs.Char.{is_ascii}

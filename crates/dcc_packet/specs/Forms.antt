@@ -1,5 +1,5 @@
--- Forms of lines. A form consists of a keyword and a field. Each line of a kind has one of the
--- forms of this kind, which have different keywords.
+-- Forms of lines. A form consists of a keyword and a field. A table lists the forms that a kind of
+-- line can have. The forms of a table have different keywords.
 use Rattle.std.specs.Prelude.{◌≡◌, Bool, true, false, not, ◌&&◌, ◌||◌, List, [], ◌∷◌, ◌++◌, if◌then◌else◌}
 use Rattle.std.specs.Prelude.{Option, Some, is_some, MatchOption, Result, Ok, Err}
 use Rattle.std.specs.List.{AllByRecursion}
@@ -51,16 +51,16 @@ abbrev pub read_by : {A : Type 0} → List (RowOf A) → Word → List Word → 
 read_by [] word words = Err faults.Word
 read_by (form ∷ forms) word words = if is_word word form.keyword then form.read words else read_by forms word words
 
--- the value of a line that consists of the keyword `word` and then `words`. If a word follows the
--- field of the line, the result is the error P10.
+-- the value of a line that consists of the keyword `word` and then `words`, by the table `forms`.
+-- If a word follows the field of the line, the result is the error P10.
 abbrev pub whole_by : {A : Type 0} → List (RowOf A) → Word → List Word → Result A PacketFault
 whole_by forms word words = do
   x ← read_by forms word words
   end ← no_more_words x.1
   Ok x.0
 
--- the words of the line that means `value`. The first row of the table that can write a line for
--- `value` writes it.
+-- the words of the line that means `value`. The first row of the table `forms` that can write a
+-- line for `value` writes this line.
 abbrev pub written_by : {A : Type 0} → List (RowOf A) → A → List Word
 written_by [] value = []
 written_by (form ∷ forms) value =
@@ -72,8 +72,8 @@ abbrev pub read_line_by : {A : Type 0} → List (RowOf A) → List Word → Resu
 read_line_by forms [] = Err faults.Word
 read_line_by forms (word ∷ words) = read_by forms word words
 
--- the field that consists of a whole line of one of the `forms`: the keyword of a row and its
--- words. The predicate `Fits` gives the values that the field can have.
+-- the field that consists of a whole line, which has one of the forms in the table `forms`. The
+-- predicate `Fits` gives the values that the field can have.
 abbrev pub choice : {A : Type 0} → (A → Type 0) → List (RowOf A) → FieldOf A
 choice Fits forms = record
     { Fits = Fits; read = λ words. read_line_by forms words; written = λ value. written_by forms value }
@@ -94,28 +94,28 @@ pub record IsRowBack {A : Type 0} (form : RowOf A) : Type 0 where
   pub tokens : (value : A) (words : List Word) → form.Fits value → form.written value ≡ Some words
       → AllByRecursion IsToken words
 
--- each row of a table parses the words that it writes for a value as this value
+-- each row of the table `forms` parses the words that it writes for a value, and gets this value
 abbrev pub AreBack : {A : Type 0} → List (RowOf A) → Type 0
 AreBack [] = Unit {0}
 AreBack (form ∷ forms) = IsRowBack form × AreBack forms
 
--- some row of a table writes a line for `value`, and `value` is a possible value of the first such
--- row
+-- some row of the table `forms` writes a line for `value`. For the first such row, `value` is a
+-- possible value.
 abbrev pub SaidBy : {A : Type 0} → List (RowOf A) → A → Type 0
 SaidBy [] value = ⊥
 SaidBy (form ∷ forms) value = MatchOption (form.written value) (SaidBy forms value) (λ words. form.Fits value)
 
--- true if some row of a table writes a line for `value`
+-- true if some row of the table `forms` writes a line for `value`
 abbrev pub is_said_by : {A : Type 0} → List (RowOf A) → A → Bool
 is_said_by [] value = false
 is_said_by (form ∷ forms) value = is_some (form.written value) || is_said_by forms value
 
--- true if some row of a table has the keyword `word`
+-- true if some row of the table `forms` has the keyword `word`
 abbrev pub has_keyword : {A : Type 0} → List (RowOf A) → Word → Bool
 has_keyword [] word = false
 has_keyword (form ∷ forms) word = is_word word form.keyword || has_keyword forms word
 
--- true if no two rows of a table have the same keyword
+-- true if no two rows of the table `forms` have the same keyword
 abbrev pub are_distinct : {A : Type 0} → List (RowOf A) → Bool
 are_distinct [] = true
 are_distinct (form ∷ forms) = not (has_keyword forms form.keyword) && are_distinct forms

@@ -1,4 +1,4 @@
--- The CV that a locomotive decoder accesses when it applies a packet, for decoders whose caller
+-- The CV that a locomotive decoder accesses when it applies a packet. The caller of the decoder
 -- stores the CVs.
 use Rattle.std.specs.Prelude.{◌≡◌, ℕ, ◌&&◌, Option, None, Some, option_map, List, if◌then◌else◌}
 use Rattle.dcc_packet.specs.declared.address.Address.{Address}

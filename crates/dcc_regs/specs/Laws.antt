@@ -40,8 +40,8 @@ OneMorePacketHeard =
     → HasHeard l who start who' now
     → who'' ≡ who' → after ≡ step who' now p → HasHeard (l ++ p ∷ []) who start who'' after
 
--- if a heard packet `p` changes the content of an accessory decoder from `d` to `d'`, the registers
--- of `d'` are the registers of `d` after one step with `p`
+-- let a heard packet `p` change the content of an accessory decoder from `d` to `d'`. The registers
+-- of content `d'` are then `step who (board_registers d) p`.
 abbrev pub BoardsTakePackets : Type 0
 BoardsTakePackets =
     (who : Who) (p : Packet) (d d' : BoardContent) (is_heard : Bool) → is_heard ≡ hears who p → is_heard ≡ true

@@ -91,7 +91,8 @@ abbrev pub is_pending_for : Option Address → Option Packet → Bool
 is_pending_for active None = true
 is_pending_for active (Some p) = is_own_write p && is_byte_write p && hears (LocoWho active) p
 
--- true if the value of a register is a flag that is on, such as a bit that is one
+-- true if the value of a register is a flag with the value true, for example a bit with the value
+-- one
 abbrev pub holds_one : Option Value → Bool
 holds_one (Some (Flag true)) = true
 holds_one held = false

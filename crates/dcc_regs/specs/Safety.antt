@@ -34,12 +34,13 @@ abbrev pub is_standing : Option Value → Bool
 is_standing (Some (SpeedValue speed)) = is_stop speed
 is_standing held = false
 
--- true if a packet sets the speed to a stop, in both speed modes
+-- true if packet `p` sets the speed to a stop in both speed modes
 abbrev pub is_stop_packet : Packet → Bool
 is_stop_packet p =
     option_map_or is_stop (speed_set Steps14 p) false && option_map_or is_stop (speed_set Steps28 p) false
 
--- true if a packet sets the speed to a step, not to a stop, in at least one of the two speed modes
+-- true if packet `p` sets the speed to a step, and not to a stop, in at least one of the two speed
+-- modes
 abbrev pub can_move : Packet → Bool
 can_move p =
     option_map_or (λ speed. not (is_stop speed)) (speed_set Steps14 p) false

@@ -21,8 +21,8 @@ use Rattle.dcc_regs.specs.Speeds.{speed_of_14, speed_of_28, speed_of_126, stop_o
 abbrev pub side : Bool → Value
 side one = Number (if one then 1 else 0)
 
--- the value to which a packet sets a plain register of a decoder in speed mode `mode`, or `None` if
--- the packet does not set the register
+-- the value to which a packet sets a plain register. The decoder has the speed mode `mode`. If the
+-- packet does not set the register, the result is `None`.
 abbrev pub sets : SpeedMode → Packet → Register → Option Value
 -- a reset
 sets mode (ToLoco to Reset) SpeedRegister = Some (SpeedValue Stop)

@@ -1,7 +1,7 @@
--- The lines of a decoder text. The definition of a line has the values that the line can have, a
--- rule that parses its words, and a rule that writes its words. The result is the first error from
--- left to right. In a word that must be a number, the error P11 comes before the error of a number
--- out of range. The error P10 of a number out of order comes last.
+-- The lines of a decoder text. The definition of a line has three parts: the possible values of the
+-- line, a rule that parses its words, and a rule that writes its words. The result is the first
+-- error from left to right. If a word must be a number, the error P11 comes before the error of a
+-- number that is out of range. The error P10 of a number that is out of order comes last.
 use Rattle.std.specs.Prelude.{◌≡◌, zero, suc, ℕ, ◌+◌, ◌^◌, ◌/◌, ◌%◌, ◌<◌, ◌==◌, nat_le, nat_lt, true, List, [], ◌∷◌}
 use Rattle.std.specs.Prelude.{◌++◌}
 use Rattle.std.specs.Prelude.{codes, Option, None, Some, Result, Ok, Err, if◌then◌else◌}
@@ -150,7 +150,8 @@ abbrev pub end_form : FormOf Head (Unit {0})
 end_form =
     record { keyword = codes "end"; says = λ none. heads.End; said = elim [ heads.End ↦ Some tt | head ↦ None ] }
 
--- the forms of the first line of a decoder, and the form of the last line of a decoder text
+-- the table of the forms `loco`, `board` and `end`: the first line of each decoder, and the last
+-- line of a decoder text
 abbrev pub head_forms : List (RowOf Head)
 head_forms = row own_address_field loco_head_form ∷ row own_board_field board_form ∷ row no_fields end_form ∷ []
 

@@ -54,8 +54,8 @@ pub record ReadsBack (fleet : List (Who × RegisterMap)) (line : ℕ) (rest : Li
   pub saves : SavesEach states fleet
   pub lines : behind ≡ line + line_feeds (fleet_text fleet)
 
--- the text of a fleet of at most 64 possible decoders is parsed as these decoders, on any line of
--- an input and before any further bytes
+-- let a fleet have at most 64 decoders, which are all possible. The text of the fleet is parsed as
+-- these decoders. The text can begin on any line `line`, and any bytes `rest` can follow.
 abbrev pub FleetsAreReadBack : Type 0
 FleetsAreReadBack = (fleet : List (Who × RegisterMap)) (line : ℕ) (rest : List ℕ)
     → length fleet ≤ 64 → AllByRecursion IsPossibleDecoder fleet → ReadsBack fleet line rest

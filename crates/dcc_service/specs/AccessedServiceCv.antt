@@ -1,5 +1,5 @@
--- The CV that a decoder on the programming track accesses when it gets a frame, for decoders whose
--- caller stores the CVs.
+-- The CV that a decoder on the programming track accesses when it gets a frame. The caller of the
+-- decoder stores the CVs.
 use Rattle.std.specs.Prelude.{◌≡◌, ℕ, true, Option, Some, None, List}
 use Rattle.dcc_packet.specs.declared.cv.CvNumber.{CvNumber}
 use Rattle.dcc_service.specs.declared.packet.ServicePacket.{ServicePacket}

@@ -53,7 +53,7 @@ abbrev pub Refreshes : ℕ → Packet → List Packet → List Packet → Type 0
 Refreshes slots p entries new =
     (kept : List Packet) × Leaves p entries kept × (new ≡ (if is_refreshed p then with_entry slots kept p else kept))
 
--- the state of a station after it has accepted the command `p`
+-- the state of a station in state `s` after it has accepted the command `p`
 abbrev pub with_command : Sending → Packet → Sending
 with_command s p = record s { waiting = s.waiting ++ p ∷ [] }
 

@@ -43,8 +43,8 @@ abbrev pub all_copies : ℕ → List Packet → List Packet
 all_copies repeats [] = []
 all_copies repeats (p ∷ later) = replicate (copies repeats p) p ++ all_copies repeats later
 
--- the copies that a station in state `s` must still send of the commands `before`, which are the
--- first commands of its queue
+-- the remaining copies of the commands `before`, which are the first commands in the queue of a
+-- station in state `s`
 abbrev pub copies_left : Sending → List Packet → List Packet
 copies_left s before = drop s.sent (all_copies s.repeats before)
 
@@ -79,8 +79,8 @@ SentPacketsAreShort =
     (timing : Timing) (packets : List Packet) → AllByRecursion BytesFit packets
     → length (sent_all (sent_with timing packets)) ≤ length packets * (2 * (timing.preamble + 55))
 
--- the duration in microseconds of a packet of 6 bytes whose bits between the preamble and the end
--- bit are all zeros
+-- the duration in microseconds of a packet of 6 bytes with the timing `timing`. All bits between
+-- the preamble and the end bit are zeros.
 abbrev pub longest_time : Timing → ℕ
 longest_time timing = (timing.preamble + 1) * (2 * timing.one) + 54 * (timing.zero_first + timing.zero_second)
 

@@ -20,7 +20,8 @@ pub record TakenInStep (who : Who) (Took OtherTook : List Packet → Progress �
   pub left_is : lists.left_ended ≡ progress.ended
   pub right_is : lists.right_ended ≡ other.ended
 
--- a comparer in state `old` that gets `item` of the list that it waits for goes to state `new`
+-- a comparer in state `old` gets `item`, the next item of the list that it waits for, and goes to
+-- state `new`
 pub record IsGiven (old : Comparer) (item : Option Packet) (new : Comparer) : Type 0 where
   pub who : new.who ≡ old.who
   pub stands : (lists : Lists) → ComparerRepresents old lists → ComparerRepresents new (with_item old.wants item lists)

@@ -15,8 +15,8 @@ use Rattle.dcc_regs.specs.States.{state_set}
 use Rattle.dcc_regs.specs.Outputs.{out_set, position_set, aspect_set}
 use Rattle.dcc_regs.specs.Sets.{side}
 
--- the value to which packet `p` sets a plain register of a decoder in speed mode `mode`, or `None`
--- if `p` does not set the register
+-- the value to which packet `p` sets a plain register. The decoder has the speed mode `mode`. If
+-- `p` does not set the register, the result is `None`.
 abbrev pub sets_by_kind : SpeedMode → Packet → Register → Option Value
 sets_by_kind mode p SpeedRegister = option_map SpeedValue (speed_set mode p)
 sets_by_kind mode p Direction = option_map Forward (direction_set p)

@@ -14,8 +14,8 @@ pub record FitsBehind (k : Kept) (bit : Bool) : Type 0 where
   pub zero_first : k.count ≡ 0 → bit ≡ false
   pub room : length k.bytes < 6
 
--- the body of framer `k` is still unfinished after one more half-bit of `bit`, which is the first
--- half-bit of a bit or completes a bit
+-- the body of framer `k` is still unfinished after one more half-bit of `bit`. This half-bit is the
+-- first or the second half-bit of a bit.
 abbrev pub HasRoomFor : Kept → Bool → Type 0
 HasRoomFor k bit = (k.has_first ≡ false) ⊎ FitsBehind k bit
 
