@@ -32,9 +32,9 @@ pub record IsSize (id : Text) (rows : List Row) (other : ℕ) (size : ℕ) : Typ
   pub given : (text : Text) → one_of id rows ≡ Some text → IsNumber 8 text
       → size ≡ digits_value 10 (without_leading_plus text)
 
--- the arguments in `rows` request the given station: no station for `None`, otherwise a station
--- with the sizes `queue`, `slots` and `repeats`. A size that was not given is 16 for the queue, 32
--- for the slots, and 2 for the repeats.
+-- the arguments in `rows` request the given station. `None` is no station. Any other value has the
+-- sizes `queue`, `slots` and `repeats` of the station. A size that was not given is 16 for the
+-- queue, 32 for the slots, and 2 for the repeats.
 abbrev pub IsStation : List Row → Option (ℕ × ℕ × ℕ) → Type 0
 IsStation rows None = IsFlag (codes "station") rows false
 IsStation rows (Some (queue, slots, repeats)) =

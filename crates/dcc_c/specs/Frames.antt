@@ -10,8 +10,8 @@ use Rattle.dcc_c.specs.declared.frame.DccFrame.{DccFrame}
 abbrev pub zeros_behind : ℕ → List ℕ → List ℕ
 zeros_behind n list = list ++ replicate (n - length list) 0
 
--- the C structure of a frame with the bytes `bytes`: their number, and six bytes, which are `bytes`
--- and then zeros
+-- the C structure of a frame with the bytes `bytes`. The structure has the number of these bytes,
+-- and six bytes: `bytes` and then zeros.
 abbrev pub frame_numbers : List ℕ → DccFrame
 frame_numbers bytes = record { len = length bytes; bytes = zeros_behind 6 bytes }
 

@@ -15,7 +15,7 @@ abbrev pub kept_bytes : Packet → List ℕ
 kept_bytes Idle = []
 kept_bytes packet = spelling packet
 
--- a packet that `bytes` store, together with a proof that `bytes` store it
+-- a packet, and a proof that `bytes` store this packet
 abbrev pub KeptBy : List ℕ → Type 0
 KeptBy bytes = (packet : Packet) × (kept_bytes packet ≡ bytes)
 

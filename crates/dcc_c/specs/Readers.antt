@@ -10,8 +10,8 @@ use Rattle.dcc_c.specs.declared.reader.DccReader.{DccReader}
 abbrev pub is_cv : ℕ → Bool
 is_cv cv = nat_le 1 cv && nat_le cv 1024
 
--- the C structure of the reading `so_far`: its CV, the number of its answers, and the number whose
--- lowest bits are these answers
+-- the C structure of the reading `so_far`. The structure has the CV, the number of answers, and a
+-- number whose lowest bits are the answers.
 abbrev pub reader_numbers : CvAnswers → DccReader
 reader_numbers so_far =
     record { cv = so_far.cv.number; known = length so_far.answers; value = number_from_lowest so_far.answers }

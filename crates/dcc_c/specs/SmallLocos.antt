@@ -1,4 +1,4 @@
--- The C structure of a locomotive decoder whose CVs the caller stores.
+-- The C structure of a locomotive decoder. The caller stores the CVs of the decoder.
 use Rattle.std.specs.Prelude.{◌≡◌, ℕ, true, Option, None, Some}
 use Rattle.dcc_packet.specs.declared.cv.CvNumber.{CvNumber}
 use Rattle.dcc_packet.specs.declared.packet.Packet.{Packet}
@@ -16,7 +16,8 @@ use Rattle.dcc_c.specs.Locos.{register_numbers}
 abbrev pub small_loco_numbers : LocoState → DccSmallLoco
 small_loco_numbers s = record { registers = register_numbers (registers_in s); cv29 = cv_in s.cvs 29 }
 
--- `loco` has the values for a locomotive decoder in state `s`, whose CVs are `s.cvs`
+-- `loco` is the C structure of a locomotive decoder in state `s`, and a locomotive decoder can be
+-- in this state
 pub record IsSmallLoco (loco : DccSmallLoco) (s : LocoState) : Type 0 where
   pub possible : is_state s ≡ true
   pub cvs : IsCvs s.cvs

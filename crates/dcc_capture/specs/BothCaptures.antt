@@ -18,7 +18,7 @@ pub record Both : Type 0 where
   pub second : List ℕ
   pub fault : Option KeptFault
 
--- two captures without half-bits, whose input has the error `fault`
+-- two captures without half-bits, and the error `fault` of their input
 abbrev pub fault_alone : KeptFault → Both
 fault_alone fault = record { first = []; second = []; fault = Some fault }
 

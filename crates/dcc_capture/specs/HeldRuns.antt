@@ -1,4 +1,5 @@
--- The runs of a capture for an operation that writes lines, part of which are buffered.
+-- The runs of a capture for an operation that writes lines. A part of the written bytes can be
+-- buffered.
 use Rattle.std.specs.Prelude.{◌≡◌, ℕ, ◌++◌, ◌⊎◌, List, Option, Result, Ok, Err}
 use Rattle.std.specs.Io.KnownBytes.{Appends}
 use Rattle.dcc_io.specs.declared.stream.Failed.{Failed}

@@ -1,4 +1,4 @@
--- The number of CV accesses of which a listener was notified.
+-- The number of CV accesses that a listener has counted.
 use Rattle.std.specs.Prelude.{ℕ, ◌+◌, ◌-◌, ◌^◌, nat_lt, if◌then◌else◌}
 use Rattle.dcc_regs.specs.Notes.{Note, IdleCall, ResetCall, SpeedCall, FunctionsCall, StateCall, CvAccessCall}
 use Rattle.dcc_regs.specs.Notes.{TurnoutCall, SignalCall, OtherCall}

@@ -58,8 +58,8 @@ fresh remaining failures halves bytes = record {
 abbrev pub all_lines : InputState → List ℕ → ℕ
 all_lines input text = lines_through input.lines input.place.line text
 
--- the number of lines that `input` has read when it has read the bytes `used`, if more bytes follow
--- them
+-- the number of lines that `input` has read when it has read the bytes `used`, and more bytes
+-- follow these bytes
 abbrev pub lines_up_to : InputState → List ℕ → ℕ
 lines_up_to input used = all_lines input (used ++ 10 ∷ [])
 

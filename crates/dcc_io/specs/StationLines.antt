@@ -15,8 +15,8 @@ use Rattle.dcc_io.specs.declared.station_line.StationLine.TheVariants as lines
 use Rattle.dcc_io.specs.Items.{Grammar}
 use Rattle.dcc_io.specs.PacketLines.{Saying, lines_by}
 
--- a request to a station: a command with a frame, which the station accepts, or a request for its
--- next packet
+-- a request to a station. The request is a command with a frame, or asks for the next packet of the
+-- station.
 pub data Asked : Type 0 where
   Command : List ℕ → Asked
   Next : Asked

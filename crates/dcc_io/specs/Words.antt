@@ -16,8 +16,8 @@ pub record PlacedWord : Type 0 where
 unfoldable pub is_gap : ℕ → Bool
 is_gap byte = byte == 32 || (byte == 9 || (byte == 13 || byte == 10))
 
--- true if `byte` is in a comment, which begins with `#` and ends before a line feed. `in_comment`
--- is true if the byte before `byte` is in a comment.
+-- true if `byte` is in a comment. A comment begins with `#` and ends before a line feed.
+-- `in_comment` is true if the byte before `byte` is in a comment.
 unfoldable pub comments : Bool → ℕ → Bool
 comments in_comment byte = if byte == 10 then false else (in_comment || byte == 35)
 
@@ -53,7 +53,7 @@ abbrev pub has_bytes : PlacedWord → Bool
 has_bytes word = is_some_byte word.bytes
 
 -- the complete words of `text`, which begins at `place`. The bytes after the last gap are not a
--- complete word, since a word can go on after them.
+-- complete word, since the word can go on after the end of `text`.
 abbrev pub ended_words : TextPlace → List ℕ → List PlacedWord
 ended_words place text = filter has_bytes (but_last (pieces place.line (without_comments place.in_comment text)))
 

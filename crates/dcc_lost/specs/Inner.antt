@@ -22,7 +22,8 @@ since_next since (Packet bytes) = None
 since_next since (Refused fault) = Some 0
 
 -- `halves` are 56 half-bits, as many as the body of three bytes has. The half-bits at the places 0,
--- 18 and 36, each of which begins the zero before a byte, have the nearest class Zero.
+-- 18 and 36 have the nearest class Zero. In a body of three bytes, these half-bits begin the zeros
+-- before the bytes.
 abbrev pub HasStartBits : List ℕ → Type 0
 HasStartBits halves =
     (length halves ≡ 56) × (nearest_class (get_or halves 0 0) ≡ Zero) × (nearest_class (get_or halves 18 0) ≡ Zero)

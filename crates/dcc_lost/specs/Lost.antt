@@ -1,4 +1,5 @@
--- Packets that a decoder does not hear, though the nearest classes of the half-bits form them.
+-- Packets that a decoder does not hear, though the nearest classes of the half-bits form these
+-- packets.
 use Rattle.std.specs.Prelude.{ℕ, ◌+◌, ◌*◌, ◌==◌, nat_le, Bool, true, false, ◌&&◌, List, [], ◌∷◌, ◌++◌}
 use Rattle.std.specs.Prelude.{length, drop, map, Option, None, Some, if◌then◌else◌}
 use Rattle.std.specs.Option.{option_or}

@@ -31,8 +31,8 @@ unfoldable pub unused_at_end : List ℕ → ℕ
 unused_at_end durations =
     let halves = map class_of durations in min 20 (length durations - used_up halves (starts halves))
 
--- for each of the half-bits `durations`, the number of half-bits directly before it that no outcome
--- uses, at most 20. The half-bits `before` come before `durations`.
+-- for each half-bit of `durations`, the number of half-bits directly before this half-bit that no
+-- outcome uses, at most 20. The half-bits `before` come before `durations`.
 unfoldable pub unused_from : List ℕ → List ℕ → List ℕ
 unused_from before [] = []
 unused_from before (us ∷ durations) = unused_at_end before ∷ unused_from (before ++ us ∷ []) durations

@@ -9,13 +9,13 @@ use Rattle.dcc_regs.specs.declared.register.Who.{Who}
 use Rattle.dcc_regs.specs.Result.{RegisterMap, HasHeard}
 use Rattle.dcc_order.specs.Hearing.{AreSpelled, HasHeardHalves, frames_of}
 
--- each decoder of the list `old` hears `packets` and becomes the decoder at the same place of the
+-- each decoder of the list `old` hears `packets`, and is then the decoder at the same place of the
 -- list `new`
 abbrev pub EachHears : {A : Type 0} → (A → Who) → (A → RegisterMap) → List Packet → List A → List A → Type 0
 EachHears who registers packets old new =
     AllZip (λ one now. HasHeard packets (who one) (registers one) (who now) (registers now)) old new
 
--- if the outcome `shown` is a packet, each decoder of the list `old` hears this packet and becomes
+-- if the outcome `shown` is a packet, each decoder of the list `old` hears this packet, and is then
 -- the decoder at the same place of `new`. Otherwise `new` equals `old`.
 pub record EachHearsSeen {A : Type 0} (who : A → Who) (registers : A → RegisterMap) (shown : Seen) (old new : List A)
     : Type 0 where
@@ -24,7 +24,7 @@ pub record EachHearsSeen {A : Type 0} (who : A → Who) (registers : A → Regis
   -- each decoder hears the packets of this list
   pub each : (packets : List Packet) → AreSpelled packets (frames_of shown) → EachHears who registers packets old new
 
--- each decoder of the list `old` hears the packets in `halves` and becomes the decoder at the same
+-- each decoder of the list `old` hears the packets in `halves`, and is then the decoder at the same
 -- place of the list `new`
 abbrev pub EachHearsHalves : {A : Type 0} → (A → Who) → (A → RegisterMap) → List ℕ → List A → List A → Type 0
 EachHearsHalves who registers halves old new =

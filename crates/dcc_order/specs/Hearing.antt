@@ -1,4 +1,4 @@
--- The packets in half-bits, and decoders that hear them.
+-- The packets in half-bits, and decoders that hear these packets.
 use Rattle.std.specs.Prelude.{◌≡◌, ℕ, List, [], ◌∷◌, ◌++◌, map}
 use Rattle.std.specs.List.{concat}
 use denote.Bor.{Bor}

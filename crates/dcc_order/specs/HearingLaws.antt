@@ -16,7 +16,8 @@ OneListOfPackets =
 abbrev pub SomeListOfPackets : Type 0
 SomeListOfPackets = (halves : List ℕ) → (packets : List Packet) × ArePackets packets halves
 
--- a decoder whose identity and registers do not change has heard the empty list of half-bits
+-- if the identity and the registers of a decoder do not change, the decoder has heard the empty
+-- list of half-bits
 abbrev pub NoHalvesHeard : Type 0
 NoHalvesHeard = (who : Who) (start : RegisterMap) → HasHeardHalves [] who start who start
 

@@ -1,4 +1,5 @@
--- Two lists of packets, of which a comparer always gets the packet that it waits for.
+-- A comparer that gets two lists of packets. The comparer always gets the next packet of the list
+-- that it waits for.
 use Rattle.std.specs.Prelude.{ℕ, ◌+◌, ◌-◌, ◌*◌, ◌^◌, ◌≡◌, ◌≤◌, ◌<◌, Bool, List, ◌++◌, Option, IfSome, length, take}
 use Rattle.std.specs.Prelude.{slice_get}
 use Rattle.dcc_packet.specs.declared.packet.Packet.{Packet}
@@ -51,7 +52,7 @@ pub record BecomesBy (c : Comparison) (item : Option Packet) (next : Comparison)
   pub same_who : next.who ≡ c.who
   pub stands : (lists : Lists) → ComparerRepresents c lists → ComparerRepresents next (with_item c.wants item lists)
 
--- a new comparer, which has got no packet, is in step with any two lists
+-- a new comparer has got no packet, and is in step with any two lists
 abbrev pub NothingGivenYet : Type 0
 NothingGivenYet = (who : Who) (left right : List Packet) (c : Comparison) → ComparerRepresents c no_lists → c.who ≡ who
     → IsInStep who left right c

@@ -10,7 +10,7 @@ use Rattle.dcc_packet.specs.declared.packet.Packet.TheVariants.{Idle, Loco, Acce
 use Rattle.dcc_packet.specs.Rows.{idle_bytes, loco_bytes, accessory_bytes, signal_bytes}
 
 -- the frame of a packet: the bytes of its row of the table and their error byte. An `Other` packet
--- fits no row, and has its own frame.
+-- fits no row. Its frame is stored in the packet.
 abbrev pub spelling : Packet → List ℕ
 spelling Idle = with_error_byte idle_bytes
 spelling (Loco to what) = with_error_byte (loco_bytes to what)

@@ -16,7 +16,7 @@ board_state_content s =
       aspects = λ n. slice_index s.aspects n;
     }
 
--- the identity of an accessory decoder in state `s`, which is its number
+-- the identity of an accessory decoder in state `s`: the number of the decoder
 abbrev pub board_who : BoardState → Who
 board_who s = BoardWho s.board
 

@@ -25,8 +25,8 @@ first_function F45 = 45
 first_function F53 = 53
 first_function F61 = 61
 
--- the number of functions in the bits of a function group, from the lowest bit on. F0, which is the
--- fifth bit of group F0, does not count.
+-- the number of functions in the bits of a function group, from the lowest bit on. F0 does not
+-- count, and is the fifth bit of group F0.
 abbrev pub count_of : Group → ℕ
 count_of F0 = 4
 count_of F5 = 4

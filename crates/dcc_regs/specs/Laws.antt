@@ -29,7 +29,8 @@ ResultInParts =
     (who : Who) (start : RegisterMap) (first second : List Packet)
     → result who start (first ++ second) ≡ result who (result who start first) second
 
--- a decoder whose identity and registers do not change has heard the empty list of packets
+-- if the identity and the registers of a decoder do not change, the decoder has heard the empty
+-- list of packets
 abbrev pub NoPacketHeard : Type 0
 NoPacketHeard = (who : Who) (start : RegisterMap) → HasHeard [] who start who start
 

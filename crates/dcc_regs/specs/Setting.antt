@@ -1,4 +1,4 @@
--- The registers that a heard packet sets, which depend on the registers before the packet.
+-- The registers that a heard packet sets, depending on the registers before the packet.
 use Rattle.std.specs.Prelude.{Option, None, Some, unwrap_or}
 use Rattle.dcc_packet.specs.declared.packet.Packet.{Packet}
 use Rattle.dcc_regs.specs.declared.register.SpeedMode.{SpeedMode}

@@ -9,16 +9,16 @@ use Rattle.dcc_regs.specs.declared.register.SpeedMode.TheVariants.{Steps14, Step
 use Rattle.dcc_regs.specs.declared.register.Speed.{Speed}
 use Rattle.dcc_regs.specs.declared.register.Speed.TheVariants.{Stop, Emergency, Step14, Step28, Step126}
 
--- the speed of a speed instruction with 28 steps, whose five bits are `bits`
+-- the speed of a speed instruction with 28 steps and the five speed bits `bits`
 abbrev pub speed_of_28 : ℕ → Speed
 speed_of_28 bits = if nat_lt bits 2 then Stop else if nat_lt bits 4 then Emergency else Step28 (bits - 3)
 
--- the speed of a speed instruction with 14 steps, whose five bits are `bits`. The lowest bit is F0.
+-- the speed of a speed instruction with 14 steps and the five bits `bits`. The lowest bit is F0.
 abbrev pub speed_of_14 : ℕ → Speed
 speed_of_14 bits = if bits / 2 == 0 then Stop else if bits / 2 == 1 then Emergency else Step14 (bits / 2 - 1)
 
--- the speed of a speed instruction with 128 steps, whose seven bits are `bits`. The values 0 and 1
--- are stops, so that 126 steps remain.
+-- the speed of a speed instruction with 128 steps and the seven speed bits `bits`. The values 0 and
+-- 1 are stops, so that 126 steps remain.
 abbrev pub speed_of_126 : ℕ → Speed
 speed_of_126 bits = if bits == 0 then Stop else if bits == 1 then Emergency else Step126 (bits - 1)
 

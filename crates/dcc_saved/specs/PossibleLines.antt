@@ -9,7 +9,7 @@ use Rattle.dcc_saved.specs.declared.decoder_line.Head.TheVariants as heads
 use Rattle.dcc_saved.specs.declared.decoder_line.LocoLine.{LocoLine}
 use Rattle.dcc_saved.specs.declared.decoder_line.LocoLine.TheVariants as behind
 
--- true if a decoder can have this saved state, so that `restore` accepts it
+-- true if a decoder can have this saved state. Then `restore` accepts the state.
 abbrev pub is_possible : Saved → Bool
 is_possible (saved.Loco state) = is_state state
 is_possible (saved.Board state) = nat_le state.board.number 510

@@ -7,8 +7,8 @@ use Rattle.dcc_io.specs.InputState.{InputState}
 use Rattle.dcc_saved.specs.TextRead.{ReadsValue}
 use Rattle.dcc_saved.specs.DecoderText.{decoder_text}
 
--- a decoder text in `old` has the given error, or the error is U6, an allocation failed, and
--- nothing was read
+-- the given error is the error of the decoder text in `old`, or it is U6. In the second case an
+-- allocation failed, and nothing was read.
 abbrev pub ReadFails : InputState → ToolFault → InputState → Type 0
 ReadFails old (Line line fault) new = ReadsValue decoder_text old (Err (kept.Line line fault)) new
 ReadFails old Read new = ReadsValue decoder_text old (Err kept.Read) new

@@ -57,8 +57,9 @@ value_line (Some value) = codes "value " ++ (decimal value ++ codes "\n")
 abbrev pub reading_text : Option (List ℕ) → CvNumber → List ℕ
 reading_text track cv = answered_lines (no_answers cv) (answers_on track cv) ++ value_line (value_on track cv)
 
--- the state of a decoder after the ninth question about `cv`. `before` is its state before the
--- first question. The decoder has acknowledged the ninth question, whose packet is still pending.
+-- the state of a decoder after the ninth question about `cv`. `before` is the state of the decoder
+-- before the first question. The packet of the ninth question, which the decoder has acknowledged,
+-- is still pending.
 abbrev pub after_reading : ServiceState → CvNumber → ServiceState
 after_reading before cv =
     record { in_service = true; pending = Some (Verify cv (cv_in before.cvs cv.number)); cvs = before.cvs }

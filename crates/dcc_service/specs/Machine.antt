@@ -52,7 +52,7 @@ pub record Step (before : ServiceState) (frame : List ℕ) (after : ServiceState
       → before.pending ≡ Some packet
       → (after ≡ record { in_service = true; pending = Some packet; cvs = acted_on packet before.cvs })
       × (answer ≡ is_acknowledged packet before.cvs)
-  -- any other packet, also an idle packet, ends service mode, and no packet is pending then
+  -- any other packet, for example an idle packet, ends service mode. Then no packet is pending.
   pub other : frame ≢ reset_bytes → ((packet : ServicePacket) → frame ≢ service_spelling packet)
       → before.in_service ≡ true
       → (after ≡ record { in_service = false; pending = None; cvs = before.cvs }) × (answer ≡ false)

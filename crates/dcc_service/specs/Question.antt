@@ -23,7 +23,7 @@ Steps before (frame ∷ frames) after (answer ∷ answers) =
 abbrev pub after_question : ServiceState → ServicePacket → ServiceState
 after_question before packet = record { in_service = true; pending = Some packet; cvs = acted_on packet before.cvs }
 
--- the acknowledgements of the eight frames of a question: `false` for the three resets and the
--- first copy, and then four times `answer`
+-- the acknowledgements of the eight frames of a question. The acknowledgements are `false` for the
+-- three resets and the first copy, and `answer` for the other four copies.
 abbrev pub four_no_then : Bool → List Bool
 four_no_then answer = replicate 4 false ++ replicate 4 answer

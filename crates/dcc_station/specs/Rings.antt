@@ -1,4 +1,4 @@
--- Rings of packets, and a station over two of them.
+-- Rings of packets, and a station that stores its packets in two rings.
 use Rattle.std.specs.Prelude.{ℕ, List, ◌++◌, take, drop}
 use Rattle.circular_buffer.specs.Buffer.{Buffer}
 use Rattle.dcc_packet.specs.declared.packet.Packet.{Packet}

@@ -135,8 +135,8 @@ abbrev pub decoder_of : Saved → Who × RegisterMap
 decoder_of (saved.Loco state) = (who.Loco state.address, loco_registers (loco_state_content state))
 decoder_of (saved.Board state) = (who.Board state.board, board_registers (board_state_content state))
 
--- `decoders` have heard the capture `left`, which is the remaining input, and their decoder text
--- was written. If an allocation failed, nothing was written.
+-- `decoders` have heard the capture in the remaining input `left`, and their decoder text was
+-- written. If an allocation failed, nothing was written.
 abbrev pub RunsDecoders : List Saved → InputState → Streams → Result (Unit {0}) ToolFault → Streams → Type 0
 RunsDecoders decoders left old answer new =
     ((answer ≡ Err told.NoMemory) × (new.input ≡ left) × (new.writer ≡ old.writer))

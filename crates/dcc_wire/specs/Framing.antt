@@ -37,8 +37,8 @@ used_up halves [] = 0
 used_up halves (start ∷ earlier) = start + halves_used (drop start halves)
 
 -- true if a body begins at `place` in `halves`: the half-bit at `place` is a zero, and at least 20
--- half-bits of ones stand directly before `place`. No body that begins at a place in `earlier` uses
--- these half-bits.
+-- half-bits of ones are directly before `place`. No body that begins at a place in `earlier` uses
+-- these half-bits of ones.
 unfoldable pub is_start : List Half → List ℕ → ℕ → Bool
 is_start halves earlier place =
     is_zero (slice_index_or halves place Bad)
@@ -67,8 +67,7 @@ unfoldable pub outcomes_at : List Half → List ℕ → List (ℕ × Seen)
 outcomes_at halves [] = []
 outcomes_at halves (start ∷ earlier) = outcomes_at halves earlier ++ outcome_at halves start
 
--- the outcomes in the list of half-bits `durations`, each together with the place of its last
--- half-bit
+-- each outcome in the list of half-bits `durations`, with the place of its last half-bit
 unfoldable pub seen : List ℕ → List (ℕ × Seen)
 seen durations = let halves = map class_of durations in outcomes_at halves (starts halves)
 
@@ -106,6 +105,6 @@ report_at place Nothing = []
 report_at place (Packet bytes) = (place, Packet bytes) ∷ []
 report_at place (Refused fault) = (place, Refused fault) ∷ []
 
--- `framer` represents the half-bits `durations`: it is the state of a framer after them
+-- `framer` represents the half-bits `durations`: it is the state of a framer after these half-bits
 unfoldable pub StandsFor : Rest → List ℕ → Type 0
 StandsFor framer durations = framer ≡ rest durations

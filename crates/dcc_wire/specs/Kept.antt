@@ -15,8 +15,8 @@ pub record Kept : Type 0 where
   -- case, `first` is true for half of a one and false for half of a zero.
   pub has_first : Bool
   pub first : Bool
-  -- in a body: `xor` is the exclusive or of the complete bytes, which are in `bytes`. `count` bits
-  -- follow these bytes. `shift` is the number that these bits form.
+  -- in a body: `bytes` are the complete bytes, and `xor` is their exclusive or. `count` bits follow
+  -- the complete bytes, and `shift` is the number that these bits form.
   pub xor : ℕ
   pub shift : ℕ
   pub count : ℕ

@@ -26,7 +26,7 @@ SomeRowFits =
     (more : List Half)
     → ((n : ℕ) × (outcome : Seen) × Comes (Zero ∷ more) n outcome) ⊎ IsUnfinished (Zero ∷ more)
 
--- if `halves` fit two rows of the table, the two rows have the same outcome and the same number of
+-- if `halves` fit two rows of the table, both rows have the same outcome and the same number of
 -- half-bits
 abbrev pub OneRowFits : Type 0
 OneRowFits =

@@ -38,8 +38,8 @@ IsRow halves (Packet bytes) = IsFrame bytes × (halves ≡ body bytes)
 IsRow halves (Refused (ErrorByte bytes)) =
     AllBytes bytes × (3 ≤ length bytes) × (length bytes ≤ 6) × (xor_of bytes ≢ 0)
     × (halves ≡ body bytes)
--- H3: `halves` are the body of 1 or 2 bytes, which is too short, since a packet has at least 3
--- bytes (RCN-211)
+-- H3: `halves` are the body of 1 or 2 bytes. This body is too short, since a packet has at least 3
+-- bytes (RCN-211).
 IsRow halves (Refused TooShort) =
     (bytes : List ℕ) × AllBytes bytes × (1 ≤ length bytes) × (length bytes ≤ 2)
     × (halves ≡ body bytes)

@@ -42,7 +42,8 @@ body_outcome bytes =
     if nat_lt (length bytes) 3 then Refused TooShort
     else (if xor_of bytes == 0 then Packet bytes else Refused (ErrorByte bytes))
 
--- the outcome of a body with the bytes `p.0` and then the bit `p.1`, and its number of half-bits
+-- the number of half-bits of a body, and its outcome. The body consists of the bytes `p.0` and then
+-- the bit `p.1`.
 unfoldable pub by_bits : List ℕ × Bool → ℕ × Seen
 by_bits p = (18 * length p.0 + 2, if p.1 then body_outcome p.0 else Refused TooLong)
 

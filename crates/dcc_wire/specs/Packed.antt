@@ -1,4 +1,4 @@
--- Bits that are stored as whole bytes and a number with the bits after them.
+-- Bits that are stored as whole bytes and a number. The number has the bits after the bytes.
 use Rattle.std.specs.Prelude.{◌≡◌, ℕ, ◌*◌, ◌^◌, ◌≤◌, ◌<◌, Bool, false, List, [], ◌∷◌, ◌++◌, length}
 use Rattle.dcc_wire.specs.Frames.{xor_of, AllBytes}
 use Rattle.dcc_wire.specs.Bodies.{bits_of}

@@ -1,4 +1,4 @@
--- Packets that are sent after noise, which is any list of half-bits.
+-- Packets that are sent after noise. Noise is any list of half-bits.
 use Rattle.std.specs.Prelude.{◌≡◌, ◌≤◌, ◌⊎◌, ℕ, ◌+◌, ◌-◌, ◌*◌, nat_le, List, [], ◌∷◌, ◌++◌, length, replicate}
 use Rattle.std.specs.Prelude.{Option, Some, None, if◌then◌else◌, Contains}
 use Rattle.std.specs.Option.{option_map}

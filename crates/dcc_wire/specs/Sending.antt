@@ -31,8 +31,8 @@ unfoldable pub sent_all : List Sent → List ℕ
 sent_all [] = []
 sent_all (packet ∷ packets) = sent packet.bytes packet.timing ++ sent_all packets
 
--- each of the `packets` as an outcome at the place of its last half-bit. `place` is the place of
--- the first half-bit of the first packet.
+-- each packet of `packets` as an outcome, at the place of its last half-bit. `place` is the place
+-- of the first half-bit of the first packet.
 unfoldable pub at_last_halves : ℕ → List Sent → List (ℕ × Seen)
 at_last_halves place [] = []
 at_last_halves place (packet ∷ packets) =

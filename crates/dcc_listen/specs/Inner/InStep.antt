@@ -1,5 +1,5 @@
--- Two sources of packets, each of which is a capture or a stored list. The next packet is always
--- read from the source that a comparer asks for.
+-- Two sources of packets. Each source is a capture or a stored list. The next packet is always read
+-- from the source that a comparer asks for.
 use Rattle.std.specs.Prelude.{◌≡◌, List, Option}
 use Rattle.dcc_packet.specs.declared.packet.Packet.{Packet}
 use Rattle.dcc_regs.specs.declared.register.Who.{Who}

@@ -1,4 +1,4 @@
--- The texts of the causes of a lost packet, which the code writes one after the other.
+-- The texts of the causes of a lost packet. The code writes these texts one after the other.
 use Rattle.std.specs.Prelude.{ℕ, ◌++◌, Bool, List, [], Option, None, Some, codes, if◌then◌else◌}
 use Rattle.dcc_lost.specs.declared.causes.OffLimits.{OffLimits}
 use Rattle.dcc_lost.specs.declared.causes.ShortPreamble.{ShortPreamble}
