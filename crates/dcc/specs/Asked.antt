@@ -21,7 +21,7 @@ pub record IsFlag (id : Text) (rows : List Row) (given : Bool) : Type 0 where
   pub set : one_of id rows ≡ Some (codes "true") → given ≡ true
   pub unset : one_of id rows ≡ Some (codes "false") → given ≡ false
 
--- `text` is a number below 2 to the power of `bits`, with or without a plus sign before it
+-- `text` is a number below `2 ^ bits`, with or without a plus sign before the number
 abbrev pub IsNumber : ℕ → Text → Type 0
 IsNumber bits text = IsNumeral 10 (without_leading_plus text) × (digits_value 10 (without_leading_plus text) < 2 ^ bits)
 
@@ -68,7 +68,8 @@ ReadsCvOf rows result = (text : Text) → one_of (codes "cv") rows ≡ Some text
     (empty : Bool) × IsFlag (codes "empty") rows empty
     × (result ≡ reading_of (cv_of (digits_value 10 (without_leading_plus text))) empty)
 
--- `result` is the request of the subcommand `name` with the parsed arguments `rows`, or its error.
+-- `result` is the request of the subcommand `name` with the parsed arguments `rows`. If these
+-- arguments have an error, `result` is this error.
 pub record IsRequestNamed (name : Text) (rows : List Row) (result : Result Request ToolFault) : Type 0 where
   pub show : name ≡ codes "show"
       → (words : Bool) × IsFlag (codes "words") rows words × (result ≡ Ok (request.Show words))

@@ -24,8 +24,8 @@ abbrev pub own_number : Option Address → ℕ
 own_number None = 0
 own_number (Some own) = address_number own
 
--- the address fields of `registers` have the values for the active address `own`, or for no active
--- address if `own` is `None`
+-- the address fields of `registers` store the active address `own`. If `own` is `None`, they store
+-- no active address.
 pub record HasAddress (registers : DccLocoRegisters) (own : Option Address) : Type 0 where
   pub active : is_active own ≡ true
   pub kind : registers.address_kind ≡ own_kind own

@@ -24,8 +24,8 @@ outcome_seen o =
 abbrev pub seen_at_answer : ℕ → DccOutcome → Seen
 seen_at_answer answer o = if answer == 0 then Nothing else outcome_seen o
 
--- the C structure of an outcome at the half-bit `at`. The struct has the bytes of a packet or of a
--- refusal H5, and no bytes for any other refusal.
+-- the C structure of an outcome at the half-bit `at`. The structure has the bytes of a packet or of
+-- a refusal H5. For any other refusal, it has no bytes.
 abbrev pub outcome_numbers : ℕ → Seen → DccOutcome
 outcome_numbers at Nothing = record { at = at; refusal = 0; frame = frame_numbers [] }
 outcome_numbers at (Packet bytes) = record { at = at; refusal = 0; frame = frame_numbers bytes }

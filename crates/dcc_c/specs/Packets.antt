@@ -37,7 +37,7 @@ group_number F45 = 45
 group_number F53 = 53
 group_number F61 = 61
 
--- the C structure of a packet of the kind `kind` in which all other fields are 0
+-- the C structure of a packet of the kind `kind`. All its other fields are 0.
 abbrev pub of_kind : ℕ → DccPacket
 of_kind kind = record {
   kind = kind;

@@ -65,8 +65,8 @@ both_of before most end (word ∷ words) last =
     else spelled_first most word.line (run_of word.bytes) (λ left. both_of word.line left end words last)
 
 -- the type of a function that gives both captures of an input. The first argument is the number of
--- the line after the last line. The second argument is the bytes that are still to be read. The
--- third argument is the error after these bytes, or `None` if the input ends there.
+-- the last line plus one. The second argument is the bytes that are still to be read. The third
+-- argument is the error after these bytes, or `None` if the input ends there.
 abbrev pub Said : Type 0
 Said = ℕ → List ℕ → Option KeptFault → Both
 

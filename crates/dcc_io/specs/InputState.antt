@@ -11,8 +11,8 @@ use Rattle.dcc_io.specs.ReaderState.{StartsWithByte, IsAtEnd}
 
 -- the state of an input
 pub record InputState : Type 0 where
-  -- the bytes that are still to be read, with a line feed at the end, or `None` if the contract of
-  -- the reader does not give its bytes
+  -- the bytes that are still to be read, with a line feed at the end. If the contract of the reader
+  -- does not give its bytes, the value is `None`.
   pub text : Option (List ℕ)
   -- the buffered bytes, which are the first bytes of `text`
   pub ahead : List ℕ

@@ -8,8 +8,8 @@ use Rattle.dcc_io.specs.Failures.{one_more}
 pub record ReaderState : Type 0 where
   -- the buffered bytes
   pub ahead : List ℕ
-  -- the buffered bytes and the bytes that are still to be read, or `None` if the contract of the
-  -- reader does not give its bytes
+  -- the buffered bytes, and then the bytes that are still to be read. If the contract of the reader
+  -- does not give its bytes, the value is `None`.
   pub text : Option (List ℕ)
   -- the number of failed reads
   pub failures : ℕ

@@ -25,8 +25,8 @@ pub record Uses (fact : List ℕ → Type 0) (old new : InputState) (text rest :
   pub lines : all_lines new rest ≡ all_lines old text
   pub counts : 0 < length rest → CountsLines old used new
 
--- between the states `old` and `new`, the input read a prefix for which `fact` holds, without an
--- error
+-- between the states `old` and `new`, the input read a prefix of its text without an error, and
+-- `fact` holds for this prefix
 pub record Took (fact : List ℕ → Type 0) (old new : InputState) : Type 0 where
   pub text : IfSome old.text (λ text. IsSomeAnd new.text (λ rest. Uses fact old new text rest))
   pub bytes : new.bytes ≤ old.bytes

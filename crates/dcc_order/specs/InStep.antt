@@ -43,7 +43,8 @@ ends_wanted (Done verdict) = 0
 abbrev pub requests_bound : List Packet → List Packet → Comparison → ℕ
 requests_bound left right c = 2 * (length left - c.left_given + (length right - c.right_given)) + ends_wanted c.wants
 
--- `item` is the packet at `place` of the list `packets`, or `None` if the list has no such place
+-- `item` is the packet at `place` of the list `packets`. If the list has no such place, `item` is
+-- `None`.
 pub record IsAt (packets : List Packet) (place : ℕ) (item : Option Packet) : Type 0 where
   pub is : item ≡ slice_get packets place
 
@@ -85,8 +86,8 @@ FewerRequestsAfterRight = (who : Who) (left right : List Packet) (c next : Compa
     → IsInStep who left right c → Right ≡ c.wants → IsAt right c.right_given item → BecomesBy c item next
     → requests_bound left right next < requests_bound left right c
 
--- in a list of fewer than 2^32 packets, the place of each packet is below 2^32 - 1, so that a
--- comparer can count it
+-- in a list of fewer than 2^32 packets, the place of each packet is below 2^32 - 1. So a comparer
+-- can count this packet.
 abbrev pub PlacesAreCounted : Type 0
 PlacesAreCounted = (packets : List Packet) (place : ℕ) (item : Option Packet) → IsAt packets place item
     → length packets < 2 ^ 32 → IfSome item (λ _. place < 2 ^ 32 - 1)

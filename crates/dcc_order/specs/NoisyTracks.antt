@@ -35,15 +35,15 @@ pub record CanBeHeardAfterNoise (noise : List ℕ) (first : SentPacket) (others 
   -- this outcome is a packet
   pub unfinished : List Packet
   pub at_most_one : length unfinished ≤ 1
-  -- the packet `first`, or an empty list if `first` is lost. A packet whose preamble has at least
-  -- 18 ones is never lost.
+  -- a list with the packet `first`, or an empty list if `first` is lost. If the preamble of `first`
+  -- has at least 18 ones, `first` is not lost.
   pub kept : List Packet
   pub kept_or_lost : (kept ≡ first.packet ∷ []) ⊎ ((kept ≡ []) × (first.timing.preamble < 18))
   -- all packets of `others`, in order, and no further packet
   pub parts : all ≡ before ++ unfinished ++ kept ++ packets_of_sent others
 
--- Each packet that is sent after noise is heard, except the packet `first`, which can be lost. `all`
--- are the packets in the noise and the half-bits after it.
+-- Each packet that is sent after noise is heard, except the packet `first`, which can be lost.
+-- `all` are the packets in the noise and in the half-bits after the noise.
 abbrev pub NoiseCostsNoPacketButTheFirst : Type 0
 NoiseCostsNoPacketButTheFirst =
     (noise : List ℕ) (first : SentPacket) (others : List SentPacket) (all : List Packet)

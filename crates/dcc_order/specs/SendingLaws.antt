@@ -32,8 +32,8 @@ abbrev pub NothingElseIsSeen : Type 0
 NothingElseIsSeen =
     (sent : List SentPacket) → seen (sent_all (map spelled_out sent)) ≡ at_last_halves 0 (map spelled_out sent)
 
--- a decoder that has heard the half-bits of a packet `p`, sent with any timing, has the registers
--- after one step with `p`
+-- let a decoder with the registers `start` hear the half-bits of a packet `p`, sent with any
+-- timing. The decoder then has the registers `step who start p`.
 abbrev pub SentPacketIsDone : Type 0
 SentPacketIsDone =
     (p : Packet) (timing : Timing) (halves : List ℕ) (who who' : Who) (start now : RegisterMap) → BytesFit p

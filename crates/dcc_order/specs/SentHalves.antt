@@ -55,16 +55,16 @@ SomethingIsSeen =
     → IsBeingSent start one left framer kept → left ≡ us ∷ later → StandsForOneMore framer us next
     → ShowsAtOneMore framer us answer → (answer ≡ Nothing → ⊥) → IsBeingSent start one later next answer
 
--- after the last half-bit of a frame, the frame is the last outcome, if the framer took only whole
--- frames before this frame
+-- let a framer have taken only whole frames before a frame. After the last half-bit of this frame,
+-- the frame is the last outcome.
 abbrev pub FrameIsSeen : Type 0
 FrameIsSeen =
     (start framer : Rest) (one : Sent) (left : List ℕ) (kept : Seen) (before : List Sent)
     → IsBeingSent start one left framer kept → left ≡ [] → IsFrame one.bytes → HasHeardAll before start
     → kept ≡ PacketSeen one.bytes
 
--- after the last half-bit of a frame, the framer has taken the whole frames before it and then this
--- frame
+-- after the last half-bit of a frame, the framer has taken all frames before this frame, and then
+-- this frame
 abbrev pub FramesAreHeard : Type 0
 FramesAreHeard =
     (start framer : Rest) (one : Sent) (left : List ℕ) (kept : Seen) (before : List Sent)

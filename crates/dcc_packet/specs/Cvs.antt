@@ -3,7 +3,7 @@ use Rattle.std.specs.Prelude.{◌≡◌, ℕ, ◌<◌, ◌-◌, ◌==◌, ◌||�
 use Rattle.std.specs.Prelude.{slice_index, slice_set}
 use Rattle.dcc_packet.specs.declared.cv.CvNumber.{CvNumber}
 
--- `cvs` has the values of CV1 to CV1024, each of which is a byte
+-- `cvs` has the values of CV1 to CV1024. Each value is a byte.
 pub record IsCvs (cvs : List ℕ) : Type 0 where
   pub count : length cvs ≡ 1024
   pub bytes : (i : ℕ) → slice_index cvs i < 256

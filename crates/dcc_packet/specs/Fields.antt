@@ -10,7 +10,8 @@ use Rattle.dcc_packet.specs.declared.fault.PacketFault.TheVariants as faults
 use Rattle.dcc_packet.specs.Words.{Word, is_separator}
 use Rattle.dcc_packet.specs.LineWords.{◌>>=◌}
 
--- the value that `rule` returns for the first of `words`, together with the words after it
+-- the value that `rule` returns for the first word of a list, and the words after this word. If the
+-- list is empty, the result is the error P10.
 abbrev pub word_and_rest : {A : Type 0} → (Word → Result A PacketFault) → List Word → Result (A × List Word) PacketFault
 word_and_rest rule [] = Err faults.Word
 word_and_rest rule (word ∷ rest) = do
@@ -32,8 +33,8 @@ ParsesAs read (Err fault) rest = read ≡ Err fault
 pub record FieldOf (A : Type 0) : Type 1 where
   -- the values that the field can have
   pub Fits : A → Type 0
-  -- the value that the first words of a list mean, together with the words after them, or the first
-  -- error
+  -- the value that the first words of a list mean, and the words after these words. If the words
+  -- have an error, the result is the first error.
   pub read : List Word → Result (A × List Word) PacketFault
   -- the words that the field writes for a value
   pub written : A → List Word

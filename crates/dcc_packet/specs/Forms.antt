@@ -21,13 +21,13 @@ pub record FormOf (A B : Type 0) : Type 0 where
   -- value, the result is `None`.
   pub said : A → Option B
 
--- a form together with its field, which is a row of a table of forms
+-- a row of a table of forms: a form and its field
 pub record RowOf (A : Type 0) : Type 1 where
   pub keyword : Word
   -- the values that a line of this form can mean
   pub Fits : A → Type 0
-  -- the value that the words after the keyword mean, together with the words after the field, or
-  -- the first error
+  -- the value that the words after the keyword mean, and the words after the field. If the words
+  -- have an error, the result is the first error.
   pub read : List Word → Result (A × List Word) PacketFault
   -- the words after the keyword in the line that means a given value. If no line of this form means
   -- this value, the result is `None`.

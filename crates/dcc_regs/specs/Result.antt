@@ -52,7 +52,8 @@ left_pending p = if is_own_write p then Some p else None
 abbrev pub pending_after : RegisterMap → List Packet → Option Value
 pending_after start l = set_in_turn (start PendingRegister) (map (λ p. PendingValue (left_pending p)) l)
 
--- true if there is a packet `before`, and it equals the packet `p` that follows it
+-- true if the packet `before`, which comes directly before the packet `p`, equals `p`. If there is
+-- no packet before `p`, the result is false.
 abbrev pub is_repeated : Option Packet → Packet → Bool
 is_repeated None p = false
 is_repeated (Some before) p = same before p

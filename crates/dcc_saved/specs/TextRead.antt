@@ -25,8 +25,8 @@ abbrev pub result_of : {A : Type 0} → Option KeptFault → Result (A × Text) 
 result_of last (Ok read) = Ok read.0
 result_of last (Err stop) = Err (stop_fault last stop)
 
--- the result of the reader `read` for `bytes` from the current line of `input` on. `last` is the
--- error after these bytes, or `None` if the input ends there.
+-- the result of the reader `read` for `bytes`, which begin on the current line of `input`. `last`
+-- is the error after these bytes, or `None` if the input ends there.
 abbrev pub answer_at : {A : Type 0} → Reader A → InputState → List ℕ → Option KeptFault → Result A KeptFault
 answer_at read input bytes last = result_of last (read (at input bytes))
 

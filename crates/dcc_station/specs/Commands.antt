@@ -30,8 +30,8 @@ is_refreshed (Accessory board output on) = false
 is_refreshed (Signal address aspect) = false
 is_refreshed (Other frame) = false
 
--- true if a station sends the packet. A station does not send idle packets, `Other` packets, and CV
--- accesses with the broadcast address.
+-- true if a station sends the packet. A station sends no idle packets, no `Other` packets, and no
+-- CV accesses with the broadcast address.
 unfoldable pub is_sendable : Packet → Bool
 is_sendable Idle = false
 is_sendable (Loco Broadcast what) = not (is_cv_access what)

@@ -4,13 +4,14 @@ use Rattle.circular_buffer.specs.Buffer.{Buffer}
 use Rattle.dcc_packet.specs.declared.packet.Packet.{Packet}
 use Rattle.dcc_station.specs.Sending.{Sending}
 
--- the `len` items of a ring in the slots `places`, the first one in slot `start`. The first slot
--- follows the last slot.
+-- the `len` items of a ring in the slots `places`. The first item is in slot `start`, and the ring
+-- goes on with the first slot after the last slot.
 abbrev pub ring_items : {X : Type 0} → ℕ → ℕ → List X → List X
 ring_items start len places = take len (drop start places ++ take start places)
 
 -- the state of a station that stores its queue in the ring `commands` and its entries in the ring
--- `entries`
+-- `entries`. It has sent `sent` copies of its first command, and sends each command `repeats`
+-- times.
 abbrev pub sending_over : Buffer Packet → ℕ → Buffer Packet → ℕ → Sending
 sending_over commands sent entries repeats = record {
   waiting = commands.items;

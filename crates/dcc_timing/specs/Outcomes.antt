@@ -18,7 +18,8 @@ is_refused number (place, Refused fault) = fault_number fault == number
 is_refused number (place, Packet bytes) = false
 is_refused number (place, Nothing) = false
 
--- `counts` are the numbers of packets, and of refusals with each error, in the list `outcomes`
+-- `counts` has the number of packets in the list `outcomes`, and the number of refusals with each
+-- error
 pub record AreOutcomes (counts : Outcomes) (outcomes : List (ℕ × Seen)) : Type 0 where
   pub packets : counts.packets ≡ count_by is_packet outcomes
   pub bad_halves : counts.bad_halves ≡ count_by (is_refused 1) outcomes

@@ -24,8 +24,8 @@ is_zero Zero = true
 is_zero Bad = false
 
 -- the number of half-bits that the body at the beginning of `halves` uses. If the body has an
--- outcome, the body uses the half-bits of the outcome except the half-bits of the end bit. If the
--- body is unfinished, it uses all half-bits.
+-- outcome, it uses the half-bits of the outcome, except the half-bits of an end bit. If the body is
+-- unfinished, it uses all half-bits.
 unfoldable pub halves_used : List Half → ℕ
 halves_used halves = option_map_or (λ p. p.0 - ones_left p.1) (outcome_of halves) (length halves)
 
@@ -83,7 +83,7 @@ is_hunting (Hunting ones) = true
 is_hunting (InBody halves) = false
 
 -- the state of a framer between two bodies. The state counts the half-bits of ones at the end of
--- `halves`, up to 20, without half-bits that the bodies at `places` use.
+-- `halves`, up to 20. Half-bits that the bodies at `places` use do not count.
 unfoldable pub hunting : List Half → List ℕ → Rest
 hunting halves places = Hunting (min 20 (ones_at_end (drop (used_up halves places) halves)))
 

@@ -1,5 +1,5 @@
--- Theorems about the table of outcomes. The table has exactly one row for each list of half-bits
--- that begins with a zero, and `outcome_of` returns the outcome of this row.
+-- Theorems about the table of outcomes. Exactly one row of the table fits a list of half-bits that
+-- begins with a zero. `outcome_of` returns the outcome of this row.
 use Rattle.std.specs.Prelude.{◌≡◌, ◌⊎◌, ◌↔◌, ℕ, List, ◌∷◌, Some, None}
 use Rattle.dcc_wire.specs.declared.half.Half.{Half}
 use Rattle.dcc_wire.specs.declared.half.Half.TheVariants.{Zero}

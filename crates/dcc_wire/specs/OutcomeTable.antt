@@ -48,8 +48,8 @@ IsRow halves (Refused TooShort) =
 IsRow halves (Refused TooLong) =
     (bytes : List ℕ) × (front : List Half) × AllBytes bytes × (length bytes ≡ 6)
     × (body bytes ≡ front ++ One ∷ One ∷ []) × (halves ≡ front ++ Zero ∷ Zero ∷ [])
--- H2: `halves` end with a half-bit of a zero and a half-bit of a one, in any order, as one bit
--- (NMRA S-9.1)
+-- H2: the last bit of `halves` consists of a half-bit of a zero and a half-bit of a one, in any
+-- order (NMRA S-9.1)
 IsRow halves (Refused SplitBit) =
     (front : List Half) × IsOpen front
     × ((halves ≡ front ++ Zero ∷ One ∷ []) ⊎ (halves ≡ front ++ One ∷ Zero ∷ []))

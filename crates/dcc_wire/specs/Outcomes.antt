@@ -24,9 +24,9 @@ behind_bits (One ∷ One ∷ halves) = behind_bits halves
 behind_bits (Zero ∷ Zero ∷ halves) = behind_bits halves
 behind_bits halves = halves
 
--- the bytes at the beginning of a list of bits, and the bit after the last byte. Each byte comes
--- after a zero. The bytes end at a one in the place of this zero, or at any bit after `n` bytes.
--- The result is `None` if the list of bits ends earlier.
+-- the bytes at the beginning of a list of bits, and the bit after the last byte. There is a zero
+-- before each byte. The bytes end if a one is in the place of this zero, or after `n` bytes. If the
+-- list of bits ends earlier, the result is `None`.
 unfoldable pub bytes_in : ℕ → List Bool → Option (List ℕ × Bool)
 bytes_in n [] = None
 bytes_in n (true ∷ bits) = Some ([], true)

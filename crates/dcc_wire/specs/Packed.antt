@@ -13,8 +13,8 @@ byte_bits (byte ∷ bytes) = false ∷ bits_of 8 byte ++ byte_bits bytes
 unfoldable pub packed_bits : List ℕ → ℕ → ℕ → List Bool
 packed_bits bytes count shift = byte_bits bytes ++ bits_of count shift
 
--- `bytes`, `count` and `shift` store the bits of an unfinished body of at most six bytes, and `xor`
--- is the exclusive or of `bytes`
+-- `bytes`, `count` and `shift` store the bits of an unfinished body, which has at most six bytes.
+-- `xor` is the exclusive or of `bytes`.
 pub record IsPacked (bytes : List ℕ) (xor count shift : ℕ) : Type 0 where
   pub few : length bytes ≤ 6
   pub each : AllBytes bytes

@@ -40,7 +40,7 @@ at_first place None first = at_last_halves place (first ∷ [])
 at_first place (Some p) first =
     if nat_le (p.0 + 18) (2 * first.timing.preamble) then at_last_halves place (first ∷ []) else []
 
--- after noise and a first packet, each later packet is seen, and no other outcome
+-- after noise and a first packet, each later packet is seen. There are no other later outcomes.
 abbrev pub NoiseCostsNoLaterPacket : Type 0
 NoiseCostsNoLaterPacket =
     (noise : List ℕ) (first : Sent) (others : List Sent) → AllFrames (first ∷ others)
@@ -62,13 +62,15 @@ OpenBodiesEndSoon =
     (noise : List ℕ) (halves : List Half) → rest noise ≡ InBody halves
     → (n : ℕ) × (outcome : Seen) × (open_end noise ≡ Some (n, outcome)) × (1 ≤ n) × (n ≤ 18)
 
--- after noise that leaves no body unfinished, each packet is seen, and no other outcome
+-- let no body be unfinished after noise. Then each packet after the noise is seen, and there are no
+-- other outcomes after the noise.
 abbrev pub NoiseBetweenBodiesCostsNothing : Type 0
 NoiseBetweenBodiesCostsNothing =
     (noise : List ℕ) (ones : ℕ) (packets : List Sent) → rest noise ≡ Hunting ones → AllFrames packets
     → seen (noise ++ sent_all packets) ≡ seen noise ++ at_last_halves (length noise) packets
 
--- if the first preamble has at least 18 ones, each packet is seen after any noise
+-- let packets be sent after noise. If the preamble of the first packet has at least 18 ones, each
+-- of these packets is seen.
 abbrev pub LongPreamblesLoseNothing : Type 0
 LongPreamblesLoseNothing =
     (noise : List ℕ) (first : Sent) (others : List Sent) → AllFrames (first ∷ others)
@@ -76,10 +78,10 @@ LongPreamblesLoseNothing =
     → seen (noise ++ sent_all (first ∷ others))
     ≡ seen noise ++ at_open_end (length noise) (open_end noise) ++ at_last_halves (length noise) (first ∷ others)
 
--- Three copies of a packet are sent after the packets `earlier`, and noise replaces one copy:
--- `before` copies come before the noise, and `after` copies come after it. If a copy comes before
--- the noise, the first copy is seen at its last half-bit. Otherwise the last copy is seen at its
--- last half-bit.
+-- Three copies of a packet are sent after the packets `earlier`, and noise replaces one copy.
+-- `before` copies come before the noise, and `after` copies come after the noise. If a copy comes
+-- before the noise, the first copy is seen at its last half-bit. Otherwise the last copy is seen at
+-- its last half-bit.
 abbrev pub OneOfThreeCopiesIsSeen : Type 0
 OneOfThreeCopiesIsSeen =
     (earlier : List Sent) (copy : Sent) (before after : ℕ) (noise : List ℕ)

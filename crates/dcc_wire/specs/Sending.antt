@@ -16,8 +16,8 @@ durations_of timing (false ∷ bits) = timing.zero_first ∷ timing.zero_second 
 unfoldable pub sent_bits : List ℕ → ℕ → List Bool
 sent_bits bytes preamble = replicate preamble true ++ body_bits bytes
 
--- the durations of the half-bits that a station sends for the packet with these `bytes` and
--- `timing`
+-- the durations of the half-bits that a station sends for the packet with the bytes `bytes` and the
+-- timing `timing`
 unfoldable pub sent : List ℕ → Timing → List ℕ
 sent bytes timing = durations_of timing (sent_bits bytes timing.preamble)
 

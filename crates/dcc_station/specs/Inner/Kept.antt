@@ -23,8 +23,8 @@ way_kept (Some true) forward = forward
 way_kept (Some false) forward = not forward
 
 -- true if an entry stays after a command that sets the speed `set` and the direction `way`. The
--- number `set` is the speed in the form of the bits of an instruction with 128 steps. An entry that
--- sets the speed stays only if it sets this speed and this direction.
+-- number `set` has the form of the speed bits in an instruction with 128 steps. An entry that sets
+-- the speed stays only if it sets this speed and this direction.
 abbrev pub speed_kept : ℕ → Option Bool → What → Bool
 speed_kept set way (Speed28 forward bits) = nat_lt set 2 && ((bits.bits / 2 == set) && way_kept way forward)
 speed_kept set way (Speed128 forward bits) = (bits.bits == set) && way_kept way forward

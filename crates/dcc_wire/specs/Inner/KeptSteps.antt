@@ -6,8 +6,8 @@ use Rattle.dcc_wire.specs.declared.seen.Seen.TheVariants.{Nothing}
 use Rattle.dcc_wire.specs.Inner.Steps.{rest_after, answer_to}
 use Rattle.dcc_wire.specs.Kept.{Kept, IsKept, kept_rest}
 
--- the framer `k` took the first half-bit of `bit`, and its body is still unfinished after the
--- second half-bit of `bit`
+-- the framer `k` took the first half-bit of `bit`. Its body is still unfinished after the second
+-- half-bit of `bit`.
 pub record FitsBehind (k : Kept) (bit : Bool) : Type 0 where
   pub has_first : k.has_first ≡ true
   pub same : k.first ≡ bit
