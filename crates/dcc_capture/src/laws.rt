@@ -34,8 +34,8 @@ pub fn outcomes_have_one_listing()
     ensures { OneListing }
 {}
 
-/// Theorem: the listing of `outcomes` in which `words` is false is the text `listing outcomes`.
-/// This text has each packet in hex.
+/// Theorem: a list of outcomes determines its listing without packet lines. This listing has each
+/// packet in hex.
 #[tactic(auto, using(crate::proofs::ListingLaws::lists_in_hex))]
 pub fn without_words_the_listing_is_in_hex()
     ensures { ListsInHex }

@@ -32,11 +32,12 @@ pub fn what_is_encoded_is_shown()
 /// Theorem: an operation that returns Ok has written exactly the following bytes, if the contracts
 /// of its reader and writer give their bytes.
 ///
-/// `show` writes a listing of the capture, with words or without words. `lost` writes the lines of the
-/// lost packets of the capture, with words or without words. `timing` writes the statistics of the
-/// capture. `encode` writes the encoding of the packets, or the answers of the station. `run` writes
-/// the decoder text of the fleet, which has heard the capture. `same` writes the line of the verdict.
-/// `readcv` writes the questions with their answers, and the value.
+/// `show` writes a listing of the capture, with packet lines or with hexadecimal digits. `lost` writes
+/// the lines of the lost packets of the capture, with packet lines or with hexadecimal digits.
+/// `timing` writes the statistics of the capture. `encode` writes the encoding of the packets, or the
+/// answers of the station. `run` writes the decoder text of the fleet, which has heard the capture.
+/// `same` writes the line of the verdict. `readcv` writes the questions with their answers, and the
+/// value.
 pub fn what_calls_write()
     ensures show { ShowWritesTheListing }
     ensures show_words { ShowWritesAListing }
