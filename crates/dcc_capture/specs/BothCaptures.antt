@@ -55,9 +55,10 @@ abbrev pub spelled_first : ℕ → ℕ → Option Run → (ℕ → Both) → Bot
 spelled_first most line None rest = fault_alone (Number line)
 spelled_first most line (Some run) rest = counted_first most run rest
 
--- Both captures of a list of words, with the limit `most` of half-bits. The word before the list is
--- on line `before`, or `before` is 0 if there is no such word. `last` is the error after the list,
--- or `None` if the input ends there. If the line `---` is missing, the error is P10 on line `end`.
+-- Both captures of a list of words, if the limit allows `most` half-bits. The word before the list
+-- is on line `before`, or `before` is 0 if there is no such word. `last` is the error after the
+-- list, or `None` if the input ends there. If the line `---` is missing, the error is P10 on line
+-- `end`.
 abbrev pub both_of : ℕ → ℕ → ℕ → List PlacedWord → Option KeptFault → Both
 both_of before most end [] last = fault_alone (fault_at_end end last)
 both_of before most end (word ∷ words) last =

@@ -25,7 +25,7 @@ abbrev pub behind_word : ℕ → ℕ → Option Run → (ℕ → Items ℕ) → 
 behind_word most line None rest = only_fault (Some (Number line))
 behind_word most line (Some run) rest = run_within most run rest
 
--- the half-bits of a list of words, with the limit `most` of half-bits. `last` is the error after
+-- the half-bits of a list of words, if the limit allows `most` half-bits. `last` is the error after
 -- the list, or `None` if the input ends there.
 abbrev pub halves_of_words : ℕ → List PlacedWord → Option KeptFault → Items ℕ
 halves_of_words most [] last = only_fault last

@@ -17,8 +17,8 @@ pub record InputState : Type 0 where
   -- the buffered bytes, which are the first bytes of `text`
   pub ahead : List ℕ
   pub place : TextPlace
-  -- the number of lines that were read, including a line that was read in part. The line feed after
-  -- the text is on no line.
+  -- the number of lines that were read. A line that was read in part counts too. The line feed
+  -- after the text is on no line.
   pub lines : ℕ
   -- the number of half-bits that the limit still allows
   pub halves : ℕ

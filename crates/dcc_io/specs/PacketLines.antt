@@ -62,7 +62,8 @@ lines_by saying input bytes last = items_of saying (lines_from input.place.line 
 abbrev pub items_in : {A B : Type 0} → Saying A B → InputState → List ℕ → Items A
 items_in saying input text = in_text (lines_by saying) input text
 
--- the meaning of packet lines: the words of a line mean a frame, which is the only item of the line
+-- the meaning of packet lines. The words of a line mean a frame, and this frame is the only item of
+-- the line.
 abbrev pub packet_words : Saying (List ℕ) (List ℕ)
 packet_words = record { said = frame_of_words; items = λ frame. frame ∷ [] }
 

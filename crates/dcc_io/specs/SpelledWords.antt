@@ -8,7 +8,7 @@ use Rattle.dcc_io.specs.declared.digits.Digits.{Digits}
 use Rattle.dcc_io.specs.declared.word.RunWord.{RunWord}
 
 -- `so_far` is the stored form of `bytes`: the number of bytes, true if all bytes are digits, and
--- the value of these digits
+-- the value of these digits.
 pub record AreDigits (so_far : Digits) (bytes : List ℕ) : Type 0 where
   pub len : so_far.len ≡ min (length bytes) 11
   pub all_digits : so_far.all_digits ≡ list_all is_ascii_digit bytes
@@ -21,7 +21,7 @@ AreSomeDigits None (Some bytes) = ⊥
 AreSomeDigits (Some so_far) None = ⊥
 AreSomeDigits (Some so_far) (Some bytes) = AreDigits so_far bytes
 
--- `so_far` is the stored form of `word`, which can be a prefix of a word
+-- `so_far` is the stored form of `word`. `word` can also be a prefix of a word.
 pub record Spells (so_far : RunWord) (word : List ℕ) : Type 0 where
   pub duration : AreDigits so_far.duration (before_star word)
   pub count : AreSomeDigits so_far.count (behind_star word)

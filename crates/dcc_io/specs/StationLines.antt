@@ -65,7 +65,7 @@ station_words = record { said = station_requests; items = λ items. items }
 abbrev pub station_lines : Grammar Asked
 station_lines = lines_by station_words
 
--- the requests of a parsed line of `encode` with a station
+-- the requests to a station that a parsed line means
 abbrev pub asked_by : StationLine → List Asked
 asked_by (lines.Command packet) = Command (spelling packet) ∷ []
 asked_by (lines.Send n) = replicate n Next

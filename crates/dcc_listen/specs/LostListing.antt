@@ -32,7 +32,8 @@ abbrev pub off_limits_text : List ℕ → OffLimits → List ℕ
 off_limits_text name off =
     name ++ codes " " ++ decimal off.count ++ codes " from " ++ decimal off.least ++ codes " to " ++ decimal off.most
 
--- the texts of the causes of the lost packet `packet`, whose last half-bit has the number `half`
+-- the texts of all causes of the lost packet `packet`. The last half-bit of the packet has the
+-- number `half`.
 abbrev pub cause_texts : ℕ → LostPacket → List (List ℕ)
 cause_texts half packet =
     option_to_list (option_map (preamble_text half) packet.preamble)

@@ -25,9 +25,9 @@ MeasuresCapture old (Ok timings) new =
     ReadsAll captures old new (λ halves. Measures timings halves × (new.halves + length halves ≡ old.halves))
 MeasuresCapture old (Err fault) new = StopsTiming old fault new
 
--- If the result of `timing` is Ok, the whole capture was read, and then the text of the statistics
--- of its half-bits was written. After an error of the capture, nothing was written. After a failed
--- write, a prefix of the text was written.
+-- If the result of `timing` is Ok, the whole capture was read, and then the text of its statistics
+-- was written. After an error of the capture, nothing was written. After a failed write, a prefix
+-- of the text was written.
 abbrev pub Times : InputState → WriterState → Result (Unit {0}) ToolFault → InputState → WriterState → Type 0
 Times old before result new after =
     CallPost

@@ -25,8 +25,8 @@ mean_or_none None = codes "none"
 mean_or_none (Some mean) =
     decimal mean.whole ++ codes "." ++ (48 + mean.hundredths / 10) ∷ (48 + mean.hundredths % 10) ∷ []
 
--- the line of a statistic: the name `name` of the list, the name `word` of the statistic, and
--- `number`
+-- the line of a statistic. The line has the name `name` of the list, the name `word` of the
+-- statistic, and `number`.
 unfoldable pub figure_line : List ℕ → List ℕ → Option ℕ → List ℕ
 figure_line name word number = name ++ word ++ number_or_none number ++ codes "\n"
 

@@ -36,13 +36,14 @@ longest_frame_at_end durations =
     option_or (frame_at_end 6 durations)
     (option_or (frame_at_end 5 durations) (option_or (frame_at_end 4 durations) (frame_at_end 3 durations)))
 
--- true if no outcome ends with the half-bit `us` that follows `durations`, and no body is
--- unfinished after this half-bit
+-- true if no outcome ends with the half-bit `us`, and no body is unfinished after this half-bit.
+-- The half-bit `us` follows the half-bits `durations`.
 unfoldable pub is_unheard : List ℕ → ℕ → Bool
 is_unheard durations us =
     (length (seen (durations ++ us ∷ [])) == length (seen durations)) && is_hunting (rest (durations ++ us ∷ []))
 
--- the frame of the packet that is lost at the half-bit `us` that follows `durations`
+-- the frame of the packet that is lost at the half-bit `us`. This half-bit follows the half-bits
+-- `durations`.
 unfoldable pub frame_lost : List ℕ → ℕ → Option (List ℕ)
 frame_lost durations us =
     if is_unheard durations us then longest_frame_at_end (durations ++ us ∷ []) else None

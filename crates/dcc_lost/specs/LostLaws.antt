@@ -20,9 +20,9 @@ pub record EndsWithFrame (durations frame : List ℕ) : Type 0 where
   pub before : List Half
   pub halves : map nearest_class durations ≡ before ++ (replicate 8 One ++ body frame)
 
--- The frame `frame` is lost at the half-bit `us` that follows `durations`: the half-bits up to `us`
--- end with this frame, and with no longer frame. No outcome ends with the half-bit `us`, and no
--- body is unfinished after it.
+-- The frame `frame` is lost at the half-bit `us`, which follows the half-bits `durations`. The
+-- half-bits up to `us` end with this frame, and with no longer frame. No outcome ends with the
+-- half-bit `us`, and no body is unfinished after it.
 pub record IsLost (durations : List ℕ) (us : ℕ) (frame : List ℕ) : Type 0 where
   pub ends : EndsWithFrame (durations ++ us ∷ []) frame
   pub longest : (other : List ℕ) → EndsWithFrame (durations ++ us ∷ []) other → length other ≤ length frame

@@ -7,8 +7,9 @@ use Rattle.dcc_packet.specs.declared.packet.Packet.{Packet}
 use Rattle.dcc_packet.specs.SamePacket.{same}
 use Rattle.dcc_packet.specs.Spelling.{spelling}
 
--- the frame `bytes` as one number, whose digits in base 256 are the bytes. The first byte is the
--- lowest digit, and a digit 1 comes above the last byte. So no two frames have the same number.
+-- the frame `bytes` as one number. The digits of this number in base 256 are the bytes, with the
+-- first byte as the lowest digit, and a digit 1 above the last byte. So no two frames have the same
+-- number.
 abbrev pub frame_number : List ℕ → ℕ
 frame_number [] = 1
 frame_number (byte ∷ bytes) = byte + 256 * frame_number bytes

@@ -41,7 +41,7 @@ IsVerdictOfAll who lists verdict =
     (lefts rights : List Packet) → MayFollow lists.left_ended lefts → MayFollow lists.right_ended rights →
     IsVerdict who (lists.left ++ lefts) (lists.right ++ rights) verdict
 
--- the number of own writes in a cut list, which is the number of its blocks minus one
+-- the number of own writes in a cut list: the number of its blocks minus one
 abbrev pub writes_in : Cut → ℕ
 writes_in (LastBlock block) = 0
 writes_in (Block block write rest) = suc (writes_in rest)

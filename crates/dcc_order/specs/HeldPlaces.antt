@@ -11,11 +11,12 @@ use Rattle.dcc_order.specs.Members.{AreMembers}
 use Rattle.dcc_order.specs.Turns.{turns_of}
 use Rattle.dcc_regs.specs.Conflict.{Conflict}
 
--- the different packets of the first block, which are in the first `count` slots of `places`
+-- the different packets of the first block. These packets are in the first `count` slots of
+-- `places`.
 abbrev pub members_at : List Place → ℕ → List Packet
 members_at places count = map (λ place. place.member) (take count places)
 
--- the numbers of the packets of the first block, which are in the slots `places`
+-- the numbers of all packets of the first block, in order. These numbers are in the slots `places`.
 abbrev pub numbers_in_slots : List Place → List ℕ
 numbers_in_slots places = map (λ place. place.number) places
 

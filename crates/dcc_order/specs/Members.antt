@@ -5,8 +5,8 @@ use Rattle.dcc_packet.specs.declared.packet.Packet.{Packet}
 use Rattle.dcc_packet.specs.SamePacket.{same}
 use Rattle.dcc_order.specs.AlikeLists.{SameMembers}
 
--- the number of packet `p` in the list `members` of different packets: its place, or the length of
--- the list if `members` does not contain `p`
+-- the number of packet `p` in the list `members` of different packets. The number is the place of
+-- `p`, or the length of the list if `members` does not contain `p`.
 abbrev pub member_number : List Packet → Packet → ℕ
 member_number members p = position_or_len (same p) members
 

@@ -42,8 +42,9 @@ pub record CanBeHeardAfterNoise (noise : List ℕ) (first : SentPacket) (others 
   -- all packets of `others`, in order, and no further packet
   pub parts : all ≡ before ++ unfinished ++ kept ++ packets_of_sent others
 
--- Each packet that is sent after noise is heard, except the packet `first`, which can be lost.
--- `all` are the packets in the noise and in the half-bits after the noise.
+-- The packet `first` is sent after noise, and other packets follow. Only `first` can be lost, and
+-- all other packets are heard. `all` are the packets in the noise and in the half-bits after the
+-- noise.
 abbrev pub NoiseCostsNoPacketButTheFirst : Type 0
 NoiseCostsNoPacketButTheFirst =
     (noise : List ℕ) (first : SentPacket) (others : List SentPacket) (all : List Packet)
@@ -82,8 +83,8 @@ MeasuringChangesNoDecoder =
     → HasHeardHalves (before ++ measured ++ after) who start who' now
     ↔ HasHeardHalves (before ++ halves_of_sent sent ++ after) who start who' now
 
--- the half-bits of the packets `earlier`, and then of three copies of the packet `copy`, one of
--- which `noise` replaces. There are `copies` copies before the noise and `more` copies after it.
+-- the half-bits of the packets `earlier`, and then of copies of the packet `copy`, with `noise` in
+-- place of one copy. There are `copies` copies before the noise and `more` copies after the noise.
 abbrev pub copies_around_noise : List SentPacket → SentPacket → ℕ → ℕ → List ℕ → List ℕ
 copies_around_noise earlier copy copies more noise =
     halves_of_sent (earlier ++ replicate copies copy) ++ noise ++ halves_of_sent (replicate more copy)

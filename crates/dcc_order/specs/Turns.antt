@@ -46,7 +46,8 @@ pub record Started (turns : List Turns) (count : ℕ) : Type 0 where
   pub none : (rival : ℕ) (d : Turns) → rival < length turns → slice_index_or turns rival d ≡ no_turns
 
 -- `turns` has `count` elements, one for each rival. Each element is the alternation of packet
--- number `own` and this rival in a block, whose packets have the numbers `numbers`.
+-- number `own` and this rival in a block. `numbers` are the numbers of all packets of this block,
+-- in order.
 pub record Counted (turns : List Turns) (own count : ℕ) (numbers : List ℕ) : Type 0 where
   pub each : length turns ≡ count
   pub told : (rival : ℕ) (d : Turns) → rival < length turns → slice_index_or turns rival d ≡ turns_of own rival numbers

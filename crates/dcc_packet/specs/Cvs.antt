@@ -8,7 +8,7 @@ pub record IsCvs (cvs : List ℕ) : Type 0 where
   pub count : length cvs ≡ 1024
   pub bytes : (i : ℕ) → slice_index cvs i < 256
 
--- the value of CV number `cv` in the list `cvs`, which begins with CV1
+-- the value of CV number `cv` in the list `cvs`. This list begins with CV1.
 abbrev pub cv_in : List ℕ → ℕ → ℕ
 cv_in cvs cv = slice_index cvs (cv - 1)
 

@@ -44,9 +44,9 @@ row fields form = record {
   written = λ value. option_map fields.written (form.said value);
 }
 
--- the value of a line that consists of the keyword `word` and then `words`, and the words after the
--- field of the line. The first row of the table with this keyword parses the line. If no row has
--- this keyword, the result is the error P10.
+-- a line consists of the keyword `word` and then `words`. The result is the value of the line, and
+-- the words after its field. The first row of the table with this keyword parses the line. If no
+-- row has this keyword, the result is the error P10.
 abbrev pub read_by : {A : Type 0} → List (RowOf A) → Word → List Word → Result (A × List Word) PacketFault
 read_by [] word words = Err faults.Word
 read_by (form ∷ forms) word words = if is_word word form.keyword then form.read words else read_by forms word words

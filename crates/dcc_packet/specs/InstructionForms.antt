@@ -124,7 +124,7 @@ cv_access_field = record {
   written = λ access. (choice CvAccessFits cv_access_forms).written access.what;
 }
 
--- the form `cv ..`, which has the four forms of CV access after the word `cv`
+-- the form `cv ..`. After the word `cv`, it has the four forms of CV access.
 abbrev pub cv_access_form : FormOf What CvAccess
 cv_access_form =
     record {

@@ -17,7 +17,7 @@ use Rattle.dcc_regs.specs.declared.register.Who.{Who}
 use Rattle.dcc_regs.specs.Heard.{hears}
 use Rattle.dcc_regs.specs.Result.{RegisterMap, HasHeard}
 
--- a call of a callback of a listener, with the arguments of the call
+-- a callback of a listener, with the arguments of the call
 pub data Note : Type 0 where
   IdleCall : Note
   ResetCall : Address → Note

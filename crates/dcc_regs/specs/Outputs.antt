@@ -1,4 +1,5 @@
--- The outputs, positions of pairs of outputs and aspects of signals that a packet sets (RCN-213).
+-- The registers of accessory decoders that a packet sets: outputs, positions of pairs of outputs,
+-- and aspects (RCN-213).
 use Rattle.std.specs.Prelude.{ℕ, Bool, true, false, ◌&&◌, ◌||◌, ◌==◌, nat_le, ◌/◌, ◌%◌, Option, None, Some}
 use Rattle.std.specs.Prelude.{if◌then◌else◌}
 use Rattle.dcc_packet.specs.declared.packet.Packet.{Packet}
@@ -19,8 +20,8 @@ abbrev pub position_set : Packet → ℕ → Option Bool
 position_set (Accessory board output true) n = if n == output.number / 2 then Some (output.number % 2 == 1) else None
 position_set x n = None
 
--- the aspect to which a packet sets signal `n` of an accessory decoder that hears the packet. If
--- the packet does not set signal `n`, the result is `None`.
+-- the aspect to which a heard packet sets signal `n` of an accessory decoder. If the packet does
+-- not set signal `n`, the result is `None`.
 abbrev pub aspect_set : Packet → ℕ → Option ℕ
 aspect_set (Signal address aspect) n =
     if (address.number == 2047 && nat_le n 3) || n == address.number % 4 then Some aspect else None

@@ -17,7 +17,7 @@ use Rattle.dcc_regs.specs.declared.register.Value.TheVariants.{Speed as SpeedVal
 use Rattle.dcc_regs.specs.FunctionBits.{group_bit}
 use Rattle.dcc_regs.specs.Speeds.{speed_of_14, speed_of_28, speed_of_126, stop_of}
 
--- the side of a pair of outputs as a value of a register: 1 if `one` is true, otherwise 0
+-- the value of a register with the side of a pair of outputs: 1 if `one` is true, otherwise 0
 abbrev pub side : Bool → Value
 side one = Number (if one then 1 else 0)
 

@@ -1,4 +1,5 @@
--- The decoder text of a fleet, as a function of the identities and the registers of its decoders.
+-- The decoder text of a fleet. The text depends only on the identities and the registers of the
+-- decoders.
 use Rattle.std.specs.Prelude.{zero, suc, ℕ, ◌+◌, ◌^◌, ◌==◌, Bool, true, List, [], ◌++◌, codes, Option, None, Some}
 use Rattle.std.specs.Prelude.{if◌then◌else◌}
 use Rattle.std.specs.List.{flat_map}

@@ -5,7 +5,7 @@ use Rattle.dcc_regs.specs.declared.register.Register.TheVariants as registers
 use Rattle.dcc_saved.specs.declared.decoder_line.Numbered.{Numbered}
 use Rattle.dcc_saved.specs.declared.decoder_line.Numbered.TheVariants.{Function, State, Out}
 
--- the first word of the line of a kind of registers
+-- the first word of the line that lists the registers of a kind
 abbrev pub name_of : Numbered → List ℕ
 name_of Function = codes "on"
 name_of State = codes "states"

@@ -67,8 +67,8 @@ pub record Wrote (how : Encode) (s : sending.Sending) (items : List Asked) (new 
   pub answers : AnswersAll how s items bytes new
   pub written : Appends before.contents after.contents bytes
 
--- the answers of a station in state `s` to the first requests of `items` form one list of bytes. A
--- prefix of this list was written.
+-- a station in state `s` answers the first requests of `items`. A prefix of these answers, as one
+-- list of bytes, was written.
 pub record WroteFront (how : Encode) (s : sending.Sending) (before after : WriterState) (items : List Asked) : Type 0
   where
     pub first : List Asked

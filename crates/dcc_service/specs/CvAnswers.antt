@@ -22,7 +22,7 @@ Asks so_far (Verify cv value) =
 Asks so_far (Write cv value) = ⊥
 Asks so_far (BitWrite cv bits one) = ⊥
 
--- the bytes of the frame of the next question of the reading `so_far`
+-- the frame of the next question that the reading `so_far` asks
 abbrev pub question_frame : CvAnswers → List ℕ
 question_frame so_far =
     if length so_far.answers == 8

@@ -51,7 +51,8 @@ abbrev pub NumbersHaveTheirBits : Type 0
 NumbersHaveTheirBits =
     (bits : List Bool) (k : ℕ) (one : Bool) → slice_get bits k ≡ Some one → bit_at (number_from_lowest bits) k ≡ bit one
 
--- the frame of the next question of a reading is `question_frame` of the reading
+-- let `question` be the next question of the reading `so_far`. The frame of `question` is
+-- `question_frame so_far`.
 abbrev pub QuestionsHaveTheirFrames : Type 0
 QuestionsHaveTheirFrames =
     (so_far : CvAnswers) (question : ServicePacket) → Asks so_far question

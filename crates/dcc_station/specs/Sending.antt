@@ -9,8 +9,8 @@ use Rattle.dcc_regs.specs.Writes.{is_own_write, writes_cv29}
 use Rattle.circular_buffer.specs.Buffer.{keep_last}
 use Rattle.dcc_station.specs.Commands.{is_refreshed}
 
--- the state of a station: its queue `waiting`, its `entries` and its sizes. `sent` is the number of
--- copies of the first command in the queue that the station has returned.
+-- the state of a station: its queue `waiting`, its `entries` and its sizes. The station has
+-- returned `sent` copies of the first command in the queue.
 pub record Sending : Type 0 where
   pub waiting : List Packet
   pub sent : ℕ

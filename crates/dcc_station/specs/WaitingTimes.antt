@@ -1,5 +1,5 @@
--- The waiting times of the commands of a station: how many packets and half-bits are sent before
--- the first copy of a command.
+-- How long a command waits in a station: how many packets and half-bits are sent before the first
+-- copy of the command.
 use Rattle.std.specs.Prelude.{ℕ, ◌+◌, ◌*◌, ◌≡◌, ◌<◌, ◌≤◌, List, [], ◌∷◌, ◌++◌, length, map, drop, replicate, sum}
 use Rattle.std.specs.List.{AllByRecursion}
 use Rattle.dcc_wire.specs.declared.timing.Timing.{Timing}
@@ -43,8 +43,8 @@ abbrev pub all_copies : ℕ → List Packet → List Packet
 all_copies repeats [] = []
 all_copies repeats (p ∷ later) = replicate (copies repeats p) p ++ all_copies repeats later
 
--- the remaining copies of the commands `before`, which are the first commands in the queue of a
--- station in state `s`
+-- the copies of the commands `before` that a station in state `s` must still send. `before` are the
+-- first commands in the queue.
 abbrev pub copies_left : Sending → List Packet → List Packet
 copies_left s before = drop s.sent (all_copies s.repeats before)
 

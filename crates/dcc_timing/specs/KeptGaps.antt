@@ -7,8 +7,8 @@ use Rattle.dcc_timing.specs.Numbers.{most, steps}
 unfoldable pub last : List ℕ → Option ℕ
 last numbers = fold (λ (before : Option ℕ) number. Some number) None numbers
 
--- `gaps` has the last number of `ends`, and the greatest difference of two successive numbers of
--- `ends`
+-- `gaps` has the last number of the list `ends`, and the greatest difference between two successive
+-- numbers
 pub record AreGaps (gaps : Gaps) (ends : List ℕ) : Type 0 where
   pub end : gaps.end ≡ last ends
   pub longest : gaps.longest ≡ most (steps ends)

@@ -41,18 +41,18 @@ packet_bits_of halves packet = pairs (keep_last (packet_length (length packet.1)
 unfoldable pub packet_bits_in : List ℕ → List (ℕ × ℕ)
 packet_bits_in halves = flat_map (packet_bits_of halves) (packets_in halves)
 
--- true if both half-bits of `bit` have the class of half of a one
+-- true if both durations in `bit` are durations of half of a one
 abbrev pub is_one_pair : ℕ × ℕ → Bool
 is_one_pair bit = is_half_of_one bit.0 && is_half_of_one bit.1
 
 abbrev pub is_zero_pair : ℕ × ℕ → Bool
 is_zero_pair bit = is_half_of_zero bit.0 && is_half_of_zero bit.1
 
--- the difference of the durations of the two half-bits of `bit`
+-- the difference between the two durations in `bit`
 abbrev pub difference : ℕ × ℕ → ℕ
 difference bit = max bit.0 bit.1 - min bit.0 bit.1
 
--- the sum of the durations of the two half-bits of `bit`
+-- the sum of the two durations in `bit`
 abbrev pub bit_duration : ℕ × ℕ → ℕ
 bit_duration bit = bit.0 + bit.1
 

@@ -27,7 +27,7 @@ abbrev pub kept_halves : Kept → List Half
 kept_halves k =
     halves_of (packed_bits k.bytes k.count k.shift) ++ first_half (if k.has_first then Some k.first else None)
 
--- the state of a framer that `k` stores as plain numbers, as a value of `Rest`
+-- the state of a framer as a value of `Rest`. `k` stores this state as plain numbers.
 abbrev pub kept_rest : Kept → Rest
 kept_rest k = if k.in_body then InBody (kept_halves k) else Hunting k.ones
 

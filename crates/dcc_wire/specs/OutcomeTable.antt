@@ -13,8 +13,8 @@ use Rattle.dcc_wire.specs.Bodies.{body}
 abbrev pub BeginsWith : List Half → List Half → Type 0
 BeginsWith halves front = (more : List Half) × (halves ≡ front ++ more)
 
--- `halves` are the first bits of the body of some six bytes: an even number of half-bits, fewer
--- than the body has (NMRA S-9.2)
+-- take the body of any six bytes. `halves` are the half-bits of its first bits: an even number of
+-- half-bits, fewer than this body has (NMRA S-9.2).
 pub record IsOpen (halves : List Half) : Type 0 where
   pub bytes : List ℕ
   pub each : AllBytes bytes

@@ -19,7 +19,7 @@ IsQuietFor (Hunting ones) half = IsQuiet ones half
 IsQuietFor (InBody halves) half = ⊥
 
 -- the number of half-bits of ones at the end of a list, at most 20. The list ends with `ones`
--- half-bits of ones, and then a run of `n` half-bits of class `half`, which begins no body.
+-- half-bits of ones, and then a run of `n` half-bits of class `half`. The run begins no body.
 unfoldable pub ones_after : ℕ → Half → ℕ → ℕ
 ones_after ones half zero = ones
 ones_after ones One (suc n) = min 20 (ones + suc n)

@@ -4,8 +4,8 @@ use Rattle.dcc_lost.specs.declared.causes.OffLimits.{OffLimits}
 use Rattle.dcc_lost.specs.declared.causes.ShortPreamble.{ShortPreamble}
 use Rattle.dcc_listen.specs.LostListing.{preamble_text, off_limits_text}
 
--- the text of the cause `preamble` of a lost packet, whose last half-bit has the number `half`. If
--- the preamble is no cause, there is no text.
+-- the text of the cause `preamble` of a lost packet. The last half-bit of the packet has the number
+-- `half`. If the preamble is no cause, there is no text.
 abbrev pub preamble_cause : ℕ → Option ShortPreamble → List ℕ
 preamble_cause half None = []
 preamble_cause half (Some preamble) = preamble_text half preamble

@@ -1,5 +1,5 @@
--- The states of the two sources of packets of a comparison. A source is a capture that is read, or
--- a list of stored packets.
+-- The states of the two sources from which a comparison gets packets. A source is a capture that is
+-- read, or a list of stored packets.
 use Rattle.std.specs.Prelude.{◌≡◌, ◌<◌, ◌^◌, ◌++◌, ◌⊎◌, Bool, true, false, List, None, length}
 use Rattle.dcc_packet.specs.declared.packet.Packet.{Packet}
 use Rattle.dcc_wire.specs.declared.framer.Framer.{Framer}

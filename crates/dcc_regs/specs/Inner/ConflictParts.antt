@@ -1,5 +1,5 @@
--- The parts of the test for conflicts: a decoder that hears both packets, and a register that the
--- packets set to different values.
+-- The two parts of the test for conflicts: does some decoder hear both packets, and do the packets
+-- set some register to different values?
 use Rattle.std.specs.Prelude.{ℕ, Bool, true, false, ◌||◌, ◌==◌, nat_lt, ◌/◌, ◌≡◌, Option, None, Some}
 use Rattle.std.specs.Prelude.{if◌then◌else◌}
 use Rattle.dcc_packet.specs.declared.address.Address.{Address}

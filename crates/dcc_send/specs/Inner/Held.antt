@@ -41,8 +41,8 @@ pub record HoldsAnswers (how : Encode) (s : sending.Sending) (items : List Asked
   pub answers : AnswersAll how s items bytes new
   pub holds : Holds before after (held ++ bytes) left
 
--- the bytes `held`, and then the answers of a station in state `s` to the first requests of
--- `items`, form one list of bytes. A prefix of this list was written.
+-- a station in state `s` answers the first requests of `items`. Let `held` and then these answers
+-- form one list of bytes. A prefix of this list was written.
 pub record HeldFront (how : Encode) (s : sending.Sending) (items : List Asked) (before after : WriterState)
     (held : List ℕ) : Type 0 where
   pub first : List Asked
