@@ -7,8 +7,8 @@ use Rattle.dcc_wire.specs.Frames.{IsFrame}
 use Rattle.dcc_wire.specs.Sending.{Sent, sent, sent_all, AllFrames}
 use Rattle.dcc_order.specs.OneMoreHalf.{StandsForOneMore, ShowsAtOneMore}
 
--- `framer` has taken the half-bits of `frames`, sent one after the other, and no other half-bits.
--- Each element of `frames` is a frame.
+-- `framer` has taken exactly the half-bits of `frames`, which were sent one after the other. Each
+-- element of `frames` is a frame.
 unfoldable pub HasHeardAll : List Sent → Rest → Type 0
 HasHeardAll frames framer = AllFrames frames × StandsFor framer (sent_all frames)
 

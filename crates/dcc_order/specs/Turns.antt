@@ -26,8 +26,8 @@ own_turn taken =
 abbrev pub rival_turn : Turns → Turns
 rival_turn taken = if taken.rival_last then taken else record { count = taken.count + 1; rival_last = true }
 
--- the alternation `taken` of the packets with the numbers `own` and `rival`, after an occurrence of
--- the packet with the number `number`
+-- the alternation of the packets with the numbers `own` and `rival` after an occurrence of packet
+-- number `number`. Before this occurrence, the alternation was `taken`.
 abbrev pub with_turn : ℕ → ℕ → Turns → ℕ → Turns
 with_turn own rival taken number =
     if number == own then own_turn taken

@@ -103,7 +103,7 @@ cv_bit_verify_form =
       said = elim [ CvBitVerify cv place one ↦ Some (cv, (place, record { one = one })) | what ↦ None ];
     }
 
--- the four forms of the words after `cv`
+-- the table of the four forms of CV access, which follow the word `cv`
 abbrev pub cv_access_forms : List (RowOf What)
 cv_access_forms =
     row (both cv_field small_field) cv_write_form
@@ -133,7 +133,7 @@ cv_access_form =
       said = λ what. if is_cv_access what then Some (record { what = what }) else None;
     }
 
--- all forms of the words after the address of a locomotive decoder
+-- the table of the forms of all instructions to locomotive decoders
 abbrev pub instruction_forms : List (RowOf What)
 instruction_forms =
     row no_fields reset_form

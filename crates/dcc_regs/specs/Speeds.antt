@@ -22,8 +22,8 @@ speed_of_14 bits = if bits / 2 == 0 then Stop else if bits / 2 == 1 then Emergen
 abbrev pub speed_of_126 : ℕ → Speed
 speed_of_126 bits = if bits == 0 then Stop else if bits == 1 then Emergency else Step126 (bits - 1)
 
--- the stop that the five bits `bits` of a broadcast for 28 or 14 steps mean. A broadcast with a
--- speed step sets no speed, and the result is `None`.
+-- the stop that a broadcast for 28 or 14 steps means, if its five speed bits are `bits`. A
+-- broadcast with a speed step sets no speed, and the result is `None`.
 abbrev pub stop_of : ℕ → Option Speed
 stop_of bits = if nat_lt bits 2 then Some Stop else if nat_lt bits 4 then Some Emergency else None
 
