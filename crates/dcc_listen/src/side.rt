@@ -117,8 +117,8 @@ impl Side for IntoIter<Packet, Global> {
     }
 }
 
-/// Reads one side of a comparison, which is a capture or a list of stored packets, to its end. The
-/// packets are ignored.
+/// Reads a side of a comparison to its end, and ignores its packets. A side is a capture or a list
+/// of stored packets.
 pub(crate) fn pass_rest<S: Side>(side: &mut S, progress: &mut Progress) -> Result<(), KeptFault>
     requires { S.is_open side.old }
     ensures rest { IfOk result (λ _. (start : S) (packets : List PacketOf) → S.took start side.old packets progress.old
