@@ -35,6 +35,7 @@ use Rattle.dcc_send.specs.EncodeStation.{is_past_limits, has_begun}
 use Rattle.dcc_send.specs.StationEncoded.{StationText}
 use Rattle.dcc_send.specs.ProgrammingTrack.{first_cvs}
 use Rattle.dcc_send.specs.ProgrammingTrackReading.{ReadsCv}
+use Rattle.dcc_what.specs.Said.{Says}
 use Rattle.dcc_tool.specs.declared.ending.Ending.{Ending}
 use Rattle.dcc_tool.specs.declared.ending.Ending.TheVariants as ending
 use Rattle.dcc_tool.specs.declared.performing.Request.{Request}
@@ -91,6 +92,10 @@ ListsLostOfCapture words old answer new =
 abbrev pub TimesCapture : Streams → Result (Unit {0}) ToolFault → Streams → Type 0
 TimesCapture old answer new =
     KeptOr old answer new (Times old.input old.writer answer new.input new.writer)
+
+-- `what` has written the sentence about the input, or `answer` is its error
+abbrev pub SaysWhat : Streams → Result (Unit {0}) ToolFault → Streams → Type 0
+SaysWhat old answer new = KeptOr old answer new (Says old.input old.writer answer new.input new.writer)
 
 -- `encode` has written the encoding of the packet lines, or the answers of the station if the
 -- request has a station
@@ -187,3 +192,4 @@ Performs (request.Same who) old result new =
     (λ answer. ComparesBoth who old.input old.writer answer new.input new.writer)
 Performs (request.ReadCv cv empty) old result new = Valued result (λ answer. ReadsTrack empty cv old answer new)
 Performs request.Timing old result new = Done result (λ answer. TimesCapture old answer new)
+Performs request.What old result new = Done result (λ answer. SaysWhat old answer new)
