@@ -80,6 +80,7 @@ pub record IsRequestNamed (name : Text) (rows : List Row) (result : Result Reque
   pub same : name ≡ codes "same" → result ≡ comparison (first_of (codes "who") rows)
   pub readcv : name ≡ codes "readcv" → ReadsCvOf rows result
   pub timing : name ≡ codes "timing" → result ≡ Ok request.Timing
+  pub what : name ≡ codes "what" → result ≡ Ok request.What
 
 -- `result` is the request of a parsed subcommand, or the error U1 if there is no subcommand
 abbrev pub IsRequestOf : Option (Text × List Row) → Result Request ToolFault → Type 0

@@ -53,6 +53,7 @@ fn request_named(name: &str, found: &ArgMatches) -> Result<Request, ToolFault>
         "same" => comparison_of(found),
         "readcv" => reading_of(found),
         "timing" => Ok(Request::Timing),
+        "what" => Ok(Request::What),
         _ => Err(ToolFault::Usage(Usage::Words)),
     }
 }

@@ -53,6 +53,9 @@ readcv_app = with_rule (with_rule (new_app (codes "readcv")) cv_rule) (flag_rule
 abbrev pub timing_app : App
 timing_app = new_app (codes "timing")
 
+abbrev pub what_app : App
+what_app = new_app (codes "what")
+
 -- the program `dcc` without its subcommands. It has a version and requires a subcommand, and `help`
 -- is no subcommand.
 abbrev pub top_app : App
@@ -71,5 +74,6 @@ dcc_app =
     (with_subcommand
     (with_subcommand
     (with_subcommand
+    (with_subcommand
     (with_subcommand (with_subcommand (with_subcommand top_app show_app.top) lost_app.top) encode_app.top) run_app.top)
-    same_app.top) readcv_app.top) timing_app.top
+    same_app.top) readcv_app.top) timing_app.top) what_app.top

@@ -4,7 +4,7 @@ ghost use Rattle.clap.specs.Words.{app_of, rule_of};
 ghost use Rattle.clap.specs.declared.builder.command.Command.TheViews.{out-Command as fields_of};
 ghost use Rattle.dcc_command.specs.CommandLine.{cv_rule, dcc_app, encode_app, encode_flags, flag_rule, readcv_app};
 ghost use Rattle.dcc_command.specs.CommandLine.{lost_app, run_app};
-ghost use Rattle.dcc_command.specs.CommandLine.{same_app, show_app, size_rule, timing_app, top_app, who_rule};
+ghost use Rattle.dcc_command.specs.CommandLine.{same_app, show_app, size_rule, timing_app, top_app, what_app, who_rule};
 
 use crate::help_texts;
 use clap::{Arg, ArgAction, Command, value_parser};
@@ -21,7 +21,8 @@ pub fn command<'a>(alloc: Global) -> Result<Command<'a>, AllocError>
         .subcommand(run(alloc))?
         .subcommand(same(alloc)?)?
         .subcommand(readcv(alloc)?)?
-        .subcommand(timing(alloc))
+        .subcommand(timing(alloc))?
+        .subcommand(what(alloc))
 }
 
 /// Returns the description of the program without its subcommands.
@@ -140,6 +141,15 @@ fn timing<'a>(alloc: Global) -> Command<'a>
     Command::new(alloc, "timing")
         .about("Writes figures that compare the half-bits of a capture with the limits")
         .after_help(help_texts::TIMING)
+}
+
+fn what<'a>(alloc: Global) -> Command<'a>
+    ensures app { app_of result ≡ what_app }
+    ensures local { (fields_of result).has_globals ≡ false }
+{
+    Command::new(alloc, "what")
+        .about("Says in a sentence what an input is")
+        .after_help(help_texts::WHAT)
 }
 
 /// Returns a flag of a subcommand, which has no value.

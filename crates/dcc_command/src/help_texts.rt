@@ -117,3 +117,18 @@ each line. Times are in microseconds:
 Each has its count, the least, the greatest and the mean, or none. Lines with `station`
 and `decoder` have the limits of NMRA S-9.1. A capture with an error has no figures:
 the program ends with U2, U4 or U7, as `dcc show` does. docs/FORMATS.md has each figure.";
+
+/// The help text of the subcommand `what`.
+pub const WHAT: &str = "\
+It reads any input from standard input, and writes one sentence about it:
+
+  dcc what < capture.txt         a capture of 84 half-bits
+  dcc what < session.sr          a zip archive, as sigrok writes: tools/to-capture ..
+  echo '58 58 x' | dcc what      a capture with a wrong word: line 1, word 3: x
+
+It knows captures, decoder texts, packet lines, VCD and CSV files, zip archives, files
+of gzip, text in UTF-16 and text with a byte order mark. For a capture most of whose
+half-bits are longer than 10000 microseconds it asks if they are nanoseconds. A wrong
+word has its line, its place in the line, and its first 32 bytes, with \\x and two hex
+digits for a byte that is no printable character. The program ends with U4 (a read
+failed), U6 (no memory) or U7 (more than 67108864 bytes).";

@@ -23,4 +23,5 @@ pub mod FramesSaid
 pub mod KeptAnswers
 pub mod NextLine
 pub mod Calls
+pub mod AllBytes
 pub mod Inner

@@ -47,6 +47,13 @@ impl<R: Source> Buffered<R> {
         }
     }
 
+    /// Returns the reader. The buffered bytes were already read from it.
+    pub fn reader(&self) -> &R
+        ensures { self.now.failures ≡ R.failures result.now }
+    {
+        &self.reader
+    }
+
     /// Returns the buffered bytes, which were read and are not used yet.
     #[inline(always)]
     pub fn ahead(&self) -> &[u8]

@@ -1,6 +1,7 @@
 //! The type of the input of an operation, and the functions that read it.
 ghost use Rattle.std.specs.Prelude.{◌≡◌, ◌≢◌, ◌+◌, ◌<◌, ◌≤◌, ◌^◌, ◌∷◌, ℕ, List, [], length, take, drop, None, Some};
-ghost use Rattle.std.specs.Prelude.{true, false, IsTrue, IfSome, IfNone, if◌then◌else◌, ◌||◌};
+ghost use Rattle.std.specs.Prelude.{true, false, IsTrue, IfSome, IfNone, MatchResult, if◌then◌else◌, ◌||◌};
+ghost use Rattle.dcc_io.specs.AllBytes.{GivesAllBytes, LacksBytes};
 ghost use Rattle.dcc_io.specs.ReaderState.{StartsWithBytes};
 ghost use Rattle.dcc_io.specs.Words.{comments, is_gap, ended_words};
 ghost use Rattle.dcc_io.specs.Inner.FrontWords.{BeginsWithWord, HasLineFeedAt, IsFrontWord};
@@ -12,7 +13,7 @@ ghost use Rattle.dcc_io.specs.Counted.{CountsRun, TakesHalf, TakesRun};
 ghost use Rattle.dcc_io.specs.InputState.{InputState, closed_text, closing, AnswersByte, ReadHasFailure, fresh};
 
 use crate::buffered::Buffered;
-use crate::fault::KeptFault;
+use crate::fault::{KeptFault, ToolFault};
 use crate::front_run::front_run;
 use crate::stream::Source;
 use crate::text_line::{TextLine, front_line, skipped_line_len};
@@ -21,6 +22,7 @@ use crate::word::{
     len_of_line, short_front_word, whole_word,
 };
 use dcc_packet::PacketFault;
+use std::alloc::Global;
 use std::marker::Model;
 
 /// The limits of one input. An input that exceeds a limit has the error U7.
@@ -153,6 +155,13 @@ impl<R: Source> Input<R> {
         ensures cause { ReadHasFailure self.now.fault self.now.failures }
     {
         self.fault
+    }
+
+    /// Returns the reader. The buffered bytes were already read from it.
+    pub fn reader(&self) -> &R
+        ensures { self.now.failures ≡ R.failures result.now }
+    {
+        self.source.reader()
     }
 
     /// Returns the number of half-bits that the limit still allows.
@@ -355,6 +364,30 @@ impl<R: Source> Input<R> {
         self.pass_word_and_gap(front.len, front.ends_line, with_line_feed);
         self.halves_left -= 1;
         Some(front.us)
+    }
+
+    /// Returns all bytes that are left, without the line feed that the input appends.
+    pub(crate) fn read_all(&mut self, alloc: Global) -> Result<Vec<u8>, ToolFault>
+        requires { self.old.fault ≡ None }
+        ensures { MatchResult result
+            (λ bytes. GivesAllBytes self.old bytes.items self.new)
+            (λ fault. LacksBytes self.old fault self.new) }
+    {
+        let mut bytes = Vec::new(alloc);
+        'bytes: loop {
+            match self.next_byte()? {
+                Some(byte) => {
+                    if bytes.push(byte).is_err() {
+                        return Err(ToolFault::NoMemory);
+                    }
+                }
+                None => {
+                    let len = bytes.len().saturating_sub(1);
+                    bytes.truncate(len);
+                    return Ok(bytes);
+                }
+            }
+        }
     }
 
     /// Returns the next line and its number. Returns `None` at the end of the input. If the

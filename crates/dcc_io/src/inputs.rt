@@ -1,12 +1,21 @@
 //! Functions that read an input item by item: words and their half-bits, lines, and the values of
+<<<<<<< HEAD
 //! lines. The crates that depend on this crate use these functions. The crate `dcc_tool` does not
 //! re-export them.
 ghost use Rattle.std.specs.Prelude.{◌≡◌, ◌≢◌, None, IfSome};
+=======
+//! lines. The crates that depend on this crate use these functions. `dcc_tool` does not re-export
+//! these functions.
+ghost use Rattle.std.specs.Prelude.{◌≡◌, ◌≢◌, None, Err, IfSome, MatchResult};
+ghost use Rattle.dcc_io.specs.AllBytes.{GivesAllBytes, LacksBytes};
+ghost use Rattle.dcc_io.specs.Faults.{as_tool_fault};
+ghost use Rattle.dcc_io.specs.InputState.{ReadHasFailure};
+>>>>>>> 05d517899905224105ff4cb7aa90d340e6226f4f
 ghost use Rattle.dcc_io.specs.KeptAnswers.{AnswersKept, KeepsFault};
 ghost use Rattle.dcc_io.specs.LineEnd.{SkipsToLineEnd};
 ghost use Rattle.dcc_io.specs.NextLine.{AnswersLine};
 
-use crate::fault::KeptFault;
+use crate::fault::{KeptFault, ToolFault};
 use crate::input::Input;
 pub use crate::input::{
     count_run, line_of_next_byte, next_word, take_buffered_half, take_buffered_run,
@@ -14,7 +23,9 @@ pub use crate::input::{
 pub use crate::said_line::{ParsedLine, next_item, take_buffered_item};
 use crate::stream::Source;
 use crate::text_line::TextLine;
+pub use crate::word::run_of;
 use dcc_packet::PacketFault;
+use std::alloc::Global;
 
 /// Stores and returns the error U2 for the line `line`, which has a wrong word. After the call the
 /// input is not read further. If an error is stored already, the function returns this error.
@@ -49,6 +60,22 @@ pub fn next_line<R: Source>(input: &mut Input<R>) -> Result<Option<TextLine>, Ke
         Some(kept) => Err(kept),
         None => input.next_line(),
     }
+}
+
+/// Returns all bytes that are left in the input, without the line feed that the input appends.
+///
+/// Errors: U4 if a read fails. U7 if the input exceeds its limit of bytes. U6 if an allocation fails.
+pub fn read_all<R: Source>(alloc: Global, input: &mut Input<R>) -> Result<Vec<u8>, ToolFault>
+    ensures kept { IfSome input.old.fault (λ fault. (result ≡ Err (as_tool_fault fault)) × (input.new ≡ input.old)) }
+    ensures cause { ReadHasFailure input.old.fault input.old.failures }
+    ensures reads { input.old.fault ≡ None → MatchResult result
+        (λ bytes. GivesAllBytes input.old bytes.items input.new)
+        (λ fault. LacksBytes input.old fault input.new) }
+{
+    if let Some(fault) = input.fault() {
+        return Err(ToolFault::from(fault));
+    }
+    input.read_all(alloc)
 }
 
 /// Stores and returns the error U3 with `fault` for the line `line`. After the call the input is

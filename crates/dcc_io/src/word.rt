@@ -92,6 +92,17 @@ impl RunWord {
     }
 }
 
+/// Returns the run that the word `word` gives. Returns `None` if the word is no run.
+pub fn run_of(word: &[u8]) -> Option<Run>
+    ensures { result ≡ run_of word.now }
+{
+    let mut so_far = RunWord::new();
+    for (len, byte) in word.iter().enumerate() {
+        so_far.push(*byte);
+    }
+    so_far.run()
+}
+
 /// A word that is a duration, at the beginning of a list of bytes, with a gap after the word.
 #[derive(Clone, Copy, Debug)]
 pub struct FrontWord {

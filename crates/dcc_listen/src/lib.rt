@@ -21,4 +21,4 @@ pub use lost_call::lost;
 pub use run_call::run;
 pub use same_call::same;
 pub use same_input_call::same_input;
-pub use timing_call::timing;
+pub use timing_call::{measure, timing};

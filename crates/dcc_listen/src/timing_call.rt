@@ -36,7 +36,7 @@ pub fn timing<R: Source, W: Sink>(input: &mut Input<R>, writer: &mut W) -> Resul
 }
 
 /// Reads a capture to its end, and returns its statistics.
-fn measure<R: Source>(input: &mut Input<R>) -> Result<Timings, KeptFault>
+pub fn measure<R: Source>(input: &mut Input<R>) -> Result<Timings, KeptFault>
     requires { input.old.fault ≡ None }
     ensures { MeasuresCapture input.old result input.new }
 {

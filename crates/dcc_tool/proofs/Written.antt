@@ -20,7 +20,9 @@ use Rattle.dcc_tool.specs.Written.{Gains, halves_said, ShowWritesTheListing, Enc
 use Rattle.dcc_tool.specs.Written.{LostWritesTheLostPackets, RunWritesTheDecoders}
 use Rattle.dcc_tool.specs.Written.{ShowWritesAListing, TimingWritesTheFigures, StationWritesItsAnswers}
 use Rattle.dcc_tool.specs.Written.{ReadcvWritesTheReading}
-use Rattle.dcc_tool.specs.Written.{SameWritesTheVerdict, SameInputWritesTheVerdict}
+use Rattle.dcc_tool.specs.Written.{SameWritesTheVerdict, SameInputWritesTheVerdict, WhatWritesTheSentence}
+use Rattle.dcc_io.specs.AllBytes.{bytes_in}
+use Rattle.dcc_what.specs.Sentences.{what_text}
 
 pub gains : (before after : WriterState) (bytes : List ℕ) → Appends before.contents after.contents bytes
     → Gains before after bytes
@@ -83,3 +85,8 @@ station_writes_its_answers how start old new before after text answers known =
 pub readcv_writes_the_reading : ReadcvWritesTheReading
 readcv_writes_the_reading track cv value before after reads =
     (reads.0.0, gains before after (reading_text track cv) reads.0.1)
+
+pub what_writes_the_sentence : WhatWritesTheSentence
+what_writes_the_sentence old new before after text says known =
+    gains before after _ (subst (λ (text : Option (List ℕ)).
+    IfSome text (λ bytes. Appends before.contents after.contents (what_text (bytes_in bytes)))) known says.0.1)

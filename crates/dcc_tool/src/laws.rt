@@ -5,7 +5,7 @@ ghost use Rattle.dcc_tool.specs.EncodedShown.{PacketLinesAreShown};
 ghost use Rattle.dcc_tool.specs.ListedText.{ShowListsTheText};
 ghost use Rattle.dcc_tool.specs.StationShown.{StationPacketsAreShown};
 ghost use Rattle.dcc_tool.specs.Written.{EncodeWritesTheEncoding, RunWritesTheDecoders, ShowWritesTheListing};
-ghost use Rattle.dcc_tool.specs.Written.{LostWritesTheLostPackets};
+ghost use Rattle.dcc_tool.specs.Written.{LostWritesTheLostPackets, WhatWritesTheSentence};
 ghost use Rattle.dcc_tool.specs.Written.{ReadcvWritesTheReading, SameInputWritesTheVerdict, SameWritesTheVerdict};
 ghost use Rattle.dcc_tool.specs.Written.{ShowWritesAListing, StationWritesItsAnswers, TimingWritesTheFigures};
 
@@ -37,7 +37,7 @@ pub fn what_is_encoded_is_shown()
 /// `timing` writes the statistics of the capture. `encode` writes the encoding of the packets, or the
 /// answers of the station. `run` writes the decoder text of the fleet, which has heard the capture.
 /// `same` writes the line of the verdict. `readcv` writes the questions with their answers, and the
-/// value.
+/// value. `what` writes the sentence about its input.
 pub fn what_calls_write()
     ensures show { ShowWritesTheListing }
     ensures show_words { ShowWritesAListing }
@@ -49,6 +49,7 @@ pub fn what_calls_write()
     ensures same { SameWritesTheVerdict }
     ensures same_input { SameInputWritesTheVerdict }
     ensures readcv { ReadcvWritesTheReading }
+    ensures what { WhatWritesTheSentence }
 {}
 
 /// Theorem: if `show` returns Ok for a capture in memory, it has written `listed_text` of the

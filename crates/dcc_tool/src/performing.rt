@@ -12,6 +12,7 @@ use dcc_packet::CvNumber;
 use dcc_regs::{BoardState, Decoder, LocoState, PackedBoard, PackedLoco, Who};
 use dcc_saved::{Saved, read_decoders};
 use dcc_send::{Encode, encode, programming_track, readcv};
+use dcc_what::what;
 use std::alloc::Global;
 
 /// A request to the program, which names an operation and its options.
@@ -39,6 +40,9 @@ pub enum Request {
 
     /// The operation `timing`: writes the statistics of a capture.
     Timing,
+
+    /// The operation `what`: writes a sentence that says what the input is.
+    What,
 }
 
 /// Executes the request with the given input and writer.
@@ -76,6 +80,10 @@ pub fn perform<R: Source, W: Sink>(
         }
         Request::Timing => {
             timing(input, writer)?;
+            Ok(Ending::Done)
+        }
+        Request::What => {
+            what(alloc, input, writer)?;
             Ok(Ending::Done)
         }
     }

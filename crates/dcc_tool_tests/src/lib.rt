@@ -24,3 +24,5 @@ mod run_tests;
 mod same_tests;
 #[cfg(test)]
 mod show_order_tests;
+#[cfg(test)]
+mod what_tests;

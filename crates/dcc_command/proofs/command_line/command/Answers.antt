@@ -1,7 +1,8 @@
 use Rattle.std.proofs.Common.{◌≡◌, ◌∙◌, ap, ap₂}
 use Rattle.std.proofs.lemmas.Result.{IfOk-weaker}
 use Rattle.clap.specs.Words.{App, app_of, with_subcommand}
-use Rattle.dcc_command.specs.CommandLine.{encode_app, lost_app, readcv_app, run_app, same_app, show_app, top_app}
+use Rattle.dcc_command.specs.CommandLine.{encode_app, lost_app, readcv_app, run_app, same_app, show_app}
+use Rattle.dcc_command.specs.CommandLine.{timing_app, top_app}
 use Rattle.dcc_command.proofs.command_line.command.Goals as goal
 
 -- a subcommand more
@@ -29,6 +30,9 @@ up_to_same = with_subcommand up_to_run same_app.top
 abbrev up_to_readcv : App
 up_to_readcv = with_subcommand up_to_same readcv_app.top
 
+abbrev up_to_timing : App
+up_to_timing = with_subcommand up_to_readcv timing_app.top
+
 pub returns : goal.returns
 returns c =
     let first : app_of c.in_ok-subcommand.field-0 ≡ up_to_show =
@@ -43,6 +47,8 @@ returns c =
     c.in_ok-subcommand-5.ensures.shape c.in_ok-same.ensures.local ∙ more fourth c.in_ok-same.ensures.app in
     let sixth : app_of c.in_ok-subcommand-6.field-0 ≡ up_to_readcv =
     c.in_ok-subcommand-6.ensures.shape c.in_ok-readcv.ensures.local ∙ more fifth c.in_ok-readcv.ensures.app in
-    IfOk-weaker c.subcommand-7.result _ _
-    (λ r adds. adds.shape c.timing.ensures.local ∙ more sixth c.timing.ensures.app)
-    c.subcommand-7.ensures
+    let seventh : app_of c.in_ok-subcommand-7.field-0 ≡ up_to_timing =
+    c.in_ok-subcommand-7.ensures.shape c.timing.ensures.local ∙ more sixth c.timing.ensures.app in
+    IfOk-weaker c.subcommand-8.result _ _
+    (λ r adds. adds.shape c.what.ensures.local ∙ more seventh c.what.ensures.app)
+    c.subcommand-8.ensures

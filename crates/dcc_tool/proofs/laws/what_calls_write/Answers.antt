@@ -1,6 +1,6 @@
 use Rattle.dcc_tool.proofs.Written.{show_writes_the_listing, encode_writes_the_encoding, run_writes_the_decoders}
 use Rattle.dcc_tool.proofs.Written.{same_writes_the_verdict, same_input_writes_the_verdict, show_writes_a_listing}
-use Rattle.dcc_tool.proofs.Written.{lost_writes_the_lost_packets}
+use Rattle.dcc_tool.proofs.Written.{lost_writes_the_lost_packets, what_writes_the_sentence}
 use Rattle.dcc_tool.proofs.Written.{timing_writes_the_figures, station_writes_its_answers, readcv_writes_the_reading}
 use Rattle.dcc_tool.proofs.laws.what_calls_write.Goals as goal
 
@@ -16,4 +16,5 @@ returns c = record {
   same = same_writes_the_verdict;
   same_input = same_input_writes_the_verdict;
   readcv = readcv_writes_the_reading;
+  what = what_writes_the_sentence;
 }

@@ -1,0 +1,4 @@
+use Rattle.dcc_what.proofs.sentence.+append_number.Given as goal
+
+abbrev pub decreases-append_number : goal.decreases-append_number
+decreases-append_number l = l.number
