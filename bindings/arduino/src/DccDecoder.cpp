@@ -1,5 +1,7 @@
 #include "DccDecoder.h"
 
+#include "DccLocoValues.h"
+
 __attribute__((weak)) void notifyDccSpeed(uint8_t, uint8_t, bool) {}
 __attribute__((weak)) void notifyDccFunc(uint8_t, bool) {}
 __attribute__((weak)) void notifyDccState(uint8_t, bool) {}
@@ -10,11 +12,18 @@ static bool isOne(const uint64_t words[2], uint8_t n) {
     return words[n / 64] >> (n % 64) & 1;
 }
 
-/* Calls for each bit that is another one than before. */
+/* Calls notify for each bit that differs from the bit before. */
 static void notifyTurned(const uint64_t before[2], const uint64_t now[2], void (*notify)(uint8_t, bool)) {
     for (uint8_t n = 0; n < 128; n++) {
         if (isOne(before, n) != isOne(now, n)) notify(n, isOne(now, n));
     }
+}
+
+void DccLocoValues::notifyChanges(const DccLocoValues &before) const {
+    const bool isChanged = before.mode != mode || before.step != step || before.forward != forward;
+    if (isChanged) notifyDccSpeed(step, mode, forward);
+    notifyTurned(before.functions, functions, notifyDccFunc);
+    notifyTurned(before.states, states, notifyDccState);
 }
 
 void DccDecoder::begin(const uint8_t cvs[DCC_CVS], uint32_t now, uint16_t boardNumber) {
@@ -38,14 +47,10 @@ void DccDecoder::hearLoco(const dcc_frame &frame, const dcc_packet &packet) {
     bool heard = false;
     if (dcc_loco_hears(&loco, frame.bytes, frame.len, &heard) != 0 || !heard) return;
     bool isWrite = packet.kind == DCC_CV_WRITE || packet.kind == DCC_CV_BIT_WRITE;
-    uint64_t functions[2] = {loco.functions[0], loco.functions[1]}, states[2] = {loco.states[0], loco.states[1]};
-    uint8_t mode = loco.speed_mode, step = loco.step, value = isWrite ? loco.cvs[packet.cv - 1] : 0;
-    bool forward = loco.forward;
+    const uint8_t value = isWrite ? loco.cvs[packet.cv - 1] : 0;
+    const DccLocoValues before(loco);
     if (dcc_loco_apply(&loco, frame.bytes, frame.len) != 0) return;
     if (packet.kind == DCC_RESET) notifyDccReset();
-    const bool is_changed = mode != loco.speed_mode || step != loco.step || forward != loco.forward;
-    if (is_changed) notifyDccSpeed(loco.step, loco.speed_mode, loco.forward);
-    notifyTurned(functions, loco.functions, notifyDccFunc);
-    notifyTurned(states, loco.states, notifyDccState);
+    DccLocoValues(loco).notifyChanges(before);
     if (isWrite && value != loco.cvs[packet.cv - 1]) notifyCVChange(packet.cv, loco.cvs[packet.cv - 1]);
 }

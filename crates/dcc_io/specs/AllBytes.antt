@@ -9,13 +9,13 @@ use Rattle.dcc_io.specs.InputState.{InputState}
 use Rattle.dcc_io.specs.Took.{FailsBehind, OverflowsBehind, LinesAt}
 
 -- the bytes of `text` before its last byte, which is the line feed that an input appends
-abbrev pub bytes_in : List ℕ → List ℕ
-bytes_in text = take (length text - 1) text
+abbrev pub bytes_of_text : List ℕ → List ℕ
+bytes_of_text text = take (length text - 1) text
 
 -- between the states `old` and `new`, the input was read to its end without an error, and `bytes`
 -- are its bytes
 pub record GivesAllBytes (old : InputState) (bytes : List ℕ) (new : InputState) : Type 0 where
-  pub bytes_are : IfSome old.text (λ text. bytes ≡ bytes_in text)
+  pub bytes_are : IfSome old.text (λ text. bytes ≡ bytes_of_text text)
   pub at_end : IsAtEnd new.text
   pub fault : new.fault ≡ None
   pub failures : new.failures ≡ old.failures

@@ -1,16 +1,10 @@
 //! Functions that read an input item by item: words and their half-bits, lines, and the values of
-<<<<<<< HEAD
 //! lines. The crates that depend on this crate use these functions. The crate `dcc_tool` does not
 //! re-export them.
-ghost use Rattle.std.specs.Prelude.{◌≡◌, ◌≢◌, None, IfSome};
-=======
-//! lines. The crates that depend on this crate use these functions. `dcc_tool` does not re-export
-//! these functions.
 ghost use Rattle.std.specs.Prelude.{◌≡◌, ◌≢◌, None, Err, IfSome, MatchResult};
 ghost use Rattle.dcc_io.specs.AllBytes.{GivesAllBytes, LacksBytes};
 ghost use Rattle.dcc_io.specs.Faults.{as_tool_fault};
 ghost use Rattle.dcc_io.specs.InputState.{ReadHasFailure};
->>>>>>> 05d517899905224105ff4cb7aa90d340e6226f4f
 ghost use Rattle.dcc_io.specs.KeptAnswers.{AnswersKept, KeepsFault};
 ghost use Rattle.dcc_io.specs.LineEnd.{SkipsToLineEnd};
 ghost use Rattle.dcc_io.specs.NextLine.{AnswersLine};

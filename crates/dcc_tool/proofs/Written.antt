@@ -21,7 +21,7 @@ use Rattle.dcc_tool.specs.Written.{LostWritesTheLostPackets, RunWritesTheDecoder
 use Rattle.dcc_tool.specs.Written.{ShowWritesAListing, TimingWritesTheFigures, StationWritesItsAnswers}
 use Rattle.dcc_tool.specs.Written.{ReadcvWritesTheReading}
 use Rattle.dcc_tool.specs.Written.{SameWritesTheVerdict, SameInputWritesTheVerdict, WhatWritesTheSentence}
-use Rattle.dcc_io.specs.AllBytes.{bytes_in}
+use Rattle.dcc_io.specs.AllBytes.{bytes_of_text}
 use Rattle.dcc_what.specs.Sentences.{what_text}
 
 pub gains : (before after : WriterState) (bytes : List ℕ) → Appends before.contents after.contents bytes
@@ -89,4 +89,4 @@ readcv_writes_the_reading track cv value before after reads =
 pub what_writes_the_sentence : WhatWritesTheSentence
 what_writes_the_sentence old new before after text says known =
     gains before after _ (subst (λ (text : Option (List ℕ)).
-    IfSome text (λ bytes. Appends before.contents after.contents (what_text (bytes_in bytes)))) known says.0.1)
+    IfSome text (λ bytes. Appends before.contents after.contents (what_text (bytes_of_text bytes)))) known says.0.1)

@@ -35,7 +35,7 @@ use Rattle.dcc_send.specs.EncodeStation.{is_past_limits, has_begun}
 use Rattle.dcc_send.specs.StationEncoded.{StationText}
 use Rattle.dcc_send.specs.ProgrammingTrack.{first_cvs}
 use Rattle.dcc_send.specs.ProgrammingTrackReading.{ReadsCv}
-use Rattle.dcc_what.specs.Said.{Says}
+use Rattle.dcc_what.specs.Said.{WritesSentence}
 use Rattle.dcc_tool.specs.declared.ending.Ending.{Ending}
 use Rattle.dcc_tool.specs.declared.ending.Ending.TheVariants as ending
 use Rattle.dcc_tool.specs.declared.performing.Request.{Request}
@@ -96,17 +96,12 @@ abbrev pub TimesCapture : Streams → Result (Unit {0}) ToolFault → Streams �
 TimesCapture old answer new =
     KeptOr old answer new (Times old.input old.writer answer new.input new.writer)
 
-<<<<<<< HEAD
--- if the request `how` has no station, `encode` has written the encoding of the packet lines. If
--- the request has a station, `encode` has written the answers of this station.
-=======
 -- `what` has written the sentence about the input, or `answer` is its error
 abbrev pub SaysWhat : Streams → Result (Unit {0}) ToolFault → Streams → Type 0
-SaysWhat old answer new = KeptOr old answer new (Says old.input old.writer answer new.input new.writer)
+SaysWhat old answer new = KeptOr old answer new (WritesSentence old.input old.writer answer new.input new.writer)
 
--- `encode` has written the encoding of the packet lines, or the answers of the station if the
--- request has a station
->>>>>>> 05d517899905224105ff4cb7aa90d340e6226f4f
+-- if the request `how` has no station, `encode` has written the encoding of the packet lines. If
+-- the request has a station, `encode` has written the answers of this station.
 pub record WritesPackets (how : Encode) (old : Streams) (answer : Result (Unit {0}) ToolFault) (new : Streams) : Type 0
   where
     pub packets : how.station ≡ None

@@ -21,16 +21,16 @@ use Rattle.dcc_saved.specs.TextRead.{Leads, ReadsValue, answer_at, answer_in}
 use Rattle.dcc_saved.specs.TextReader.{done}
 use Rattle.dcc_what.specs.declared.kind.Front.TheVariants as fronts
 use Rattle.dcc_what.specs.declared.kind.Kind.TheVariants as kinds
-use Rattle.dcc_what.specs.Kinds.{closed, text_kind, whole}
+use Rattle.dcc_what.specs.Kinds.{closed, text_kind, input_of_bytes}
 
 -- the capture of an input that was read as a whole
 abbrev halves_in : List ℕ → List ℕ
-halves_in bytes = (capture_in (whole bytes) (closed bytes)).said
+halves_in bytes = (capture_in (input_of_bytes bytes) (closed bytes)).said
 
 abbrev fault_in : List ℕ → Option KeptFault
-fault_in bytes = (capture_in (whole bytes) (closed bytes)).fault
+fault_in bytes = (capture_in (input_of_bytes bytes) (closed bytes)).fault
 
-pub capture_measured : (bytes : List ℕ) (old new : InputState) (timings : Timings) → old ≡ whole bytes
+pub capture_measured : (bytes : List ℕ) (old new : InputState) (timings : Timings) → old ≡ input_of_bytes bytes
     → MeasuresCapture old (Ok timings) new → (fault_in bytes ≡ None) × Measures timings (halves_in bytes)
 capture_measured bytes old new timings is reads =
     let all = subst (λ (state : InputState). MeasuresCapture state (Ok timings) new) is reads in
@@ -41,14 +41,14 @@ pub kind_of_capture : (bytes : List ℕ) (halves above : ℕ) → fault_in bytes
     → kinds.Capture halves (nat_lt halves (2 * above)) ≡ text_kind bytes fronts.Halves
 kind_of_capture bytes halves above none is_halves is_above = rw (none, is_halves, is_above) refl
 
-pub kind_of_bad_capture : (bytes : List ℕ) (old new : InputState) (line : ℕ) → old ≡ whole bytes
+pub kind_of_bad_capture : (bytes : List ℕ) (old new : InputState) (line : ℕ) → old ≡ input_of_bytes bytes
     → StopsTiming old (Number line) new → kinds.BadCapture line ≡ text_kind bytes fronts.Halves
 kind_of_bad_capture bytes old new line is stops =
     let stopped = subst (λ (state : InputState). StopsTiming state (Number line) new) is stops in
     let fault : fault_in bytes ≡ Some (Number line) = stopped.reads.items.0.0 in
     rw fault refl
 
-pub kind_of_long_capture : (bytes : List ℕ) (old new : InputState) → old ≡ whole bytes
+pub kind_of_long_capture : (bytes : List ℕ) (old new : InputState) → old ≡ input_of_bytes bytes
     → StopsTiming old TooMuch new → kinds.TooLong ≡ text_kind bytes fronts.Halves
 kind_of_long_capture bytes old new is stops =
     let stopped = subst (λ (state : InputState). StopsTiming state TooMuch new) is stops in
@@ -56,39 +56,40 @@ kind_of_long_capture bytes old new is stops =
     rw fault refl
 
 -- a decoder text that was read, and one with an error
-pub kind_of_decoders : (bytes : List ℕ) (old new : InputState) (decoders : List Saved) → old ≡ whole bytes
+pub kind_of_decoders : (bytes : List ℕ) (old new : InputState) (decoders : List Saved) → old ≡ input_of_bytes bytes
     → ReadsValue decoder_text old (Ok decoders) new → kinds.Decoders ≡ text_kind bytes fronts.Decoders
 kind_of_decoders bytes old new decoders is reads =
     let leads = subst (λ (state : InputState). Leads decoder_text state (done decoders) new) is reads in
-    let answer : answer_in decoder_text (whole bytes) (closed bytes) ≡ Ok decoders =
-    within_limit-stops (answer_at decoder_text (whole bytes)) (Ok decoders) leads.took
+    let answer : answer_in decoder_text (input_of_bytes bytes) (closed bytes) ≡ Ok decoders =
+    within_limit-stops (answer_at decoder_text (input_of_bytes bytes)) (Ok decoders) leads.took
     (λ used more last goes. rw (goes.goes_on more) refl) in
     rw answer refl
 
-pub kind_of_bad_decoders : (bytes : List ℕ) (old new : InputState) (line : ℕ) (fault : PacketFault) → old ≡ whole bytes
+pub kind_of_bad_decoders : (bytes : List ℕ) (old new : InputState) (line : ℕ) (fault : PacketFault)
+    → old ≡ input_of_bytes bytes
     → ReadsValue decoder_text old (Err (Line line fault)) new
     → kinds.BadDecoders line fault ≡ text_kind bytes fronts.Decoders
 kind_of_bad_decoders bytes old new line fault is reads =
     let refuses = subst (λ (state : InputState). ReadsValue decoder_text state (Err (Line line fault)) new) is reads in
-    let answer : answer_in decoder_text (whole bytes) (closed bytes) ≡ Err (Line line fault) = refuses.0.1 in
+    let answer : answer_in decoder_text (input_of_bytes bytes) (closed bytes) ≡ Err (Line line fault) = refuses.0.1 in
     rw answer refl
 
-pub kind_of_many_decoders : (bytes : List ℕ) (old new : InputState) → old ≡ whole bytes
+pub kind_of_many_decoders : (bytes : List ℕ) (old new : InputState) → old ≡ input_of_bytes bytes
     → ReadsValue decoder_text old (Err TooMuch) new → kinds.TooLong ≡ text_kind bytes fronts.Decoders
 kind_of_many_decoders bytes old new is reads =
     let refuses = subst (λ (state : InputState). ReadsValue decoder_text state (Err TooMuch) new) is reads in
-    let answer : answer_in decoder_text (whole bytes) (closed bytes) ≡ Err TooMuch = refuses.0.1 in
+    let answer : answer_in decoder_text (input_of_bytes bytes) (closed bytes) ≡ Err TooMuch = refuses.0.1 in
     rw answer refl
 
 -- an input of which nothing was read stores no error
-pub no_fault : (bytes : List ℕ) (old : InputState) → old ≡ whole bytes → old.fault ≡ None
+pub no_fault : (bytes : List ℕ) (old : InputState) → old ≡ input_of_bytes bytes → old.fault ≡ None
 no_fault bytes old is = rw is refl
 
 -- the error of lines, of which `items` were read before it
 module _ {A B : Type 0} (saying : Saying A B) (bytes : List ℕ) (items : List A) (now new : InputState)
-    (gave : Gave (lines_by saying) (whole bytes) items now) where
+    (gave : Gave (lines_by saying) (input_of_bytes bytes) items now) where
   pub lines_with_fault : (fault : Option KeptFault)
       → IfSome now.text (λ text. in_text (lines_by saying) now text ≡ only_fault fault)
-      → fault ≡ (in_text (lines_by saying) (whole bytes) (closed bytes)).fault
+      → fault ≡ (in_text (lines_by saying) (input_of_bytes bytes) (closed bytes)).fault
   lines_with_fault fault stops =
-      sym (up_to_fault (lines_by saying) (whole bytes) now items fault (λ said. Unit {0}) gave stops tt).0
+      sym (up_to_fault (lines_by saying) (input_of_bytes bytes) now items fault (λ said. Unit {0}) gave stops tt).0

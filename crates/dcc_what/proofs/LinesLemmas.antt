@@ -1,6 +1,7 @@
 -- The lines of a text, one after the other.
 use Rattle.std.proofs.Common.{◌≡◌, ℕ, ◌+◌, ◌-◌, ◌<◌, ◌≤◌, ◌^◌, Bool, true, false, not, List, [], ◌∷◌, length, take}
-use Rattle.std.proofs.Common.{drop, All, decimal, eqb, refl, ap, sym, ◌∙◌, arith, inl, inr, nat_lt, filter, cond, suc, None}
+use Rattle.std.proofs.Common.{drop, All, decimal, eqb, refl, ap, sym, ◌∙◌, arith, inl, inr, nat_lt}
+use Rattle.std.proofs.Common.{filter, cond, suc, None}
 use Rattle.std.specs.List.{slice_split, position_or_len, flat_map, onto_first}
 use Rattle.std.proofs.lemmas.Bool.{cases_lt}
 use Rattle.std.proofs.lemmas.Bool.Decides.{nat_tests}

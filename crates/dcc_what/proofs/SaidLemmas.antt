@@ -8,20 +8,20 @@ use Rattle.dcc_io.specs.InputState.{InputState}
 use Rattle.dcc_io.specs.WriterState.{WriterState}
 use Rattle.dcc_io.specs.WrittenBytes.{AppendsFront}
 use Rattle.dcc_io.proofs.TookLemmas.{if_some_map}
-use Rattle.dcc_what.specs.Said.{ReadWhole, Says}
+use Rattle.dcc_what.specs.Said.{ReadWhole, WritesSentence}
 use Rattle.dcc_what.specs.Sentences.{what_text}
 
 module _ (old new : InputState) (before after : WriterState) (bytes text : List ℕ) (gives : GivesAllBytes old bytes new)
     (is : text ≡ what_text bytes) where
-  read_whole : ReadWhole old new
-  read_whole = record { at_end = gives.at_end; fault = gives.fault; failures = gives.failures }
+  read_all : ReadWhole old new
+  read_all = record { at_end = gives.at_end; fault = gives.fault; failures = gives.failures }
 
   -- all was written
   pub says : Appends before.contents after.contents text × (after.failures ≡ before.failures)
-      → Says old before (Ok tt) new after
+      → WritesSentence old before (Ok tt) new after
   says wrote = (
     (
-      read_whole,
+      read_all,
       if_some_map _ _ old.text (λ whole same. subst (λ (l : List ℕ). Appends before.contents after.contents l)
           (is ∙ ap what_text same) wrote.0) gives.bytes_are,
     ),
@@ -30,10 +30,10 @@ module _ (old new : InputState) (before after : WriterState) (bytes text : List 
 
   -- a write failed
   pub says_in_part : AppendsFront before after text × HasRisen before.failures after.failures
-      → Says old before (Err Write) new after
+      → WritesSentence old before (Err Write) new after
   says_in_part wrote = (
     (
-      read_whole,
+      read_all,
       if_some_map _ _ old.text
           (λ whole same. subst (λ (l : List ℕ). AppendsFront before after l) (is ∙ ap what_text same) wrote.0)
           gives.bytes_are,

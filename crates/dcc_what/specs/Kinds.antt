@@ -47,10 +47,10 @@ front_kind line (word ∷ more) =
     else if is_word word (codes "dcc-decoders") then fronts.Decoders else fronts.Lines
 
 -- the input with the bytes `bytes`, of which nothing was read, and the full limits
-abbrev pub whole : List ℕ → InputState
-whole bytes = fresh (Some bytes) 0 16777216 67108864
+abbrev pub input_of_bytes : List ℕ → InputState
+input_of_bytes bytes = fresh (Some bytes) 0 16777216 67108864
 
--- the text of the input `whole bytes`
+-- the text of the input `input_of_bytes bytes`
 abbrev pub closed : List ℕ → List ℕ
 closed bytes = bytes ++ 10 ∷ []
 
@@ -84,11 +84,11 @@ text_kind bytes fronts.Empty = kinds.Empty
 text_kind bytes fronts.Commas = kinds.Commas
 text_kind bytes fronts.Vcd = kinds.Vcd
 text_kind bytes fronts.Halves =
-    let items = capture_in (whole bytes) (closed bytes) in capture_kind items.said items.fault
-text_kind bytes fronts.Decoders = decoders_kind (answer_in decoder_text (whole bytes) (closed bytes))
+    let items = capture_in (input_of_bytes bytes) (closed bytes) in capture_kind items.said items.fault
+text_kind bytes fronts.Decoders = decoders_kind (answer_in decoder_text (input_of_bytes bytes) (closed bytes))
 text_kind bytes fronts.Lines =
-    lines_kind (in_text packet_lines (whole bytes) (closed bytes)).fault
-    (in_text station_lines (whole bytes) (closed bytes)).fault
+    lines_kind (in_text packet_lines (input_of_bytes bytes) (closed bytes)).fault
+    (in_text station_lines (input_of_bytes bytes) (closed bytes)).fault
 
 -- the front of the text `bytes`
 abbrev pub front_of : List ℕ → Front

@@ -14,12 +14,12 @@ use Rattle.dcc_what.specs.Lines.{first_bad, line_numbered, lines_of}
 use Rattle.dcc_what.specs.Kinds.{kind_of}
 
 -- true if `byte` is a printable ASCII character and no backslash
-abbrev pub is_plain : ℕ → Bool
-is_plain byte = nat_le 32 byte && (nat_le byte 126 && not (byte == 92))
+abbrev pub is_printable : ℕ → Bool
+is_printable byte = nat_le 32 byte && (nat_le byte 126 && not (byte == 92))
 
 -- a byte of a word: a printable character as it is, any other byte as `\x` and two hex digits
 abbrev pub shown_byte : ℕ → List ℕ
-shown_byte byte = if is_plain byte then byte ∷ [] else codes "\\x" ++ encode_lower (byte ∷ [])
+shown_byte byte = if is_printable byte then byte ∷ [] else codes "\\x" ++ encode_lower (byte ∷ [])
 
 -- the text of a word: its first 32 bytes, and `..` if it has more
 abbrev pub shown_word : Word → List ℕ
@@ -42,7 +42,8 @@ bad_word_sentence line (Some bad) =
 
 -- the text of the error `fault` on line `line`
 abbrev pub fault_text : ℕ → PacketFault → List ℕ
-fault_text line fault = codes " with error P" ++ decimal (packet_fault_number fault) ++ codes " on line " ++ decimal line
+fault_text line fault =
+    codes " with error P" ++ decimal (packet_fault_number fault) ++ codes " on line " ++ decimal line
 
 -- the sentence about the input `bytes` of the kind `kind`
 abbrev pub sentence : List ℕ → Kind → List ℕ
@@ -61,7 +62,8 @@ sentence bytes kinds.Decoders = codes "a decoder text, which `dcc run` reads bef
 sentence bytes (kinds.BadDecoders line fault) = codes "a decoder text" ++ fault_text line fault
 sentence bytes kinds.Packets = codes "packet lines, which `dcc encode` reads"
 sentence bytes kinds.StationLines = codes "packet lines for a station, which `dcc encode --station` reads"
-sentence bytes (kinds.BadLines line fault) = codes "no capture, and no packet lines: packet lines" ++ fault_text line fault
+sentence bytes (kinds.BadLines line fault) =
+    codes "no capture, and no packet lines: packet lines" ++ fault_text line fault
 
 -- the text that `what` writes about an input with the bytes `bytes`: one line
 abbrev pub what_text : List ℕ → List ℕ

@@ -4,7 +4,7 @@ ghost use Rattle.dcc_packet.specs.Words.{words};
 ghost use Rattle.dcc_io.specs.Items.{in_text};
 ghost use Rattle.dcc_io.specs.PacketLines.{lines_by};
 ghost use Rattle.dcc_io.specs.declared.fault.ToolFault.TheVariants.{NoMemory};
-ghost use Rattle.dcc_what.specs.Kinds.{begins_with, closed, file_kind, front_kind, kind_of, text_kind, whole};
+ghost use Rattle.dcc_what.specs.Kinds.{begins_with, closed, file_kind, front_kind, input_of_bytes, kind_of, text_kind};
 
 use crate::kind::{Front, Kind};
 use crate::lines::first_with_word;
@@ -83,7 +83,7 @@ fn text_kind(alloc: Global, bytes: &[u8], front: Front) -> Result<Kind, ToolFaul
 
 /// Returns an input with the bytes `bytes` and the full limits.
 fn input_of(bytes: &[u8]) -> Input<InMemory<'_>>
-    ensures { result ≡ whole bytes.now }
+    ensures { result ≡ input_of_bytes bytes.now }
 {
     Input::new(InMemory { rest: bytes }, Limits::full())
 }
@@ -140,7 +140,7 @@ fn lines_kind(bytes: &[u8]) -> Kind
 
 /// Returns the first error of the lines of `bytes`. Returns `None` if no line has an error.
 fn fault_of_lines<L: ParsedLine>(bytes: &[u8]) -> Option<KeptFault>
-    ensures { result ≡ (in_text (lines_by L.saying) (whole bytes.now) (closed bytes.now)).fault }
+    ensures { result ≡ (in_text (lines_by L.saying) (input_of_bytes bytes.now) (closed bytes.now)).fault }
 {
     let mut input = input_of(bytes);
     'lines: loop {

@@ -111,7 +111,8 @@ fn append_capture(text: &mut Sentence, halves: u32, long: bool)
 #[tactic(auto, using(crate::proofs::LinesLemmas::decimal_is_short))]
 fn append_bad_capture(text: &mut Sentence, bytes: &[u8], line: u64)
     requires { array_vec_len text.old ≡ 0 }
-    ensures items { text.new.items ≡ bad_word_sentence line (first_bad 1 (words (line_numbered line (lines_of bytes.now)))) }
+    ensures items { text.new.items ≡ bad_word_sentence line
+        (first_bad 1 (words (line_numbered line (lines_of bytes.now)))) }
     ensures len { array_vec_len text.new ≤ 400 }
 {
     match bad_word(line_numbered(bytes, line)) {

@@ -2,7 +2,7 @@
 ghost use Rattle.std.specs.Prelude.{◌≡◌, None, Err, IfSome};
 ghost use Rattle.dcc_io.specs.Faults.{as_tool_fault};
 ghost use Rattle.dcc_io.specs.InputState.{ReadHasFailure};
-ghost use Rattle.dcc_what.specs.Said.{Says};
+ghost use Rattle.dcc_what.specs.Said.{WritesSentence};
 
 use crate::reading::kind_of;
 use crate::sentence::sentence;
@@ -31,7 +31,7 @@ pub fn what<R: Source, W: Sink>(
 
     // If no error is stored, the function writes the sentence about the bytes of the input.
     ensures says { input.old.fault ≡ None
-        → Says input.old (W.state writer.old) result input.new (W.state writer.new) }
+        → WritesSentence input.old (W.state writer.old) result input.new (W.state writer.new) }
 {
     let bytes = read_all(alloc, input)?;
     let kind = kind_of(alloc, bytes.as_slice())?;

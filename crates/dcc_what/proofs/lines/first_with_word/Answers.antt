@@ -7,14 +7,15 @@ pub returns-in-Some : goal.returns-in-Some
 returns-in-Some c =
     let line = c.without_comment-line.result.now in
     let some = sym c.new.ensures ∙ c.in-Some.ensures in
-    sym (c.lines.invariant ∙ line_with_words c.lines.rest.now line c.line_len-len.result _ _ c.line_len-len.ensures.place
-    c.without_comment-line.ensures some)
+    sym (c.lines.invariant ∙ line_with_words c.lines.rest.now line c.line_len-len.result _ _
+    c.line_len-len.ensures.place c.without_comment-line.ensures some)
 
 pub returns-in-None : goal.returns-in-None
 returns-in-None c =
     let line = c.without_comment-line.result.now in
     let none : words line ≡ [] = sym c.new.ensures ∙ c.in-None.ensures.0 in
-    let whole : length c.lines.rest.now ≤ c.line_len-len.result = omega (arith, c.if-len-len_of.true, c.len_of.ensures) in
+    let whole : length c.lines.rest.now ≤ c.line_len-len.result =
+    omega (arith, c.if-len-len_of.true, c.len_of.ensures) in
     sym (c.lines.invariant ∙ no_line_with_words c.lines.rest.now line c.line_len-len.result c.line_len-len.ensures.place
     c.without_comment-line.ensures none whole)
 

@@ -12,7 +12,8 @@ returns-then-left-eq1 c =
 pub returns-then-len-len_of : goal.returns-then-len-len_of
 returns-then-len-len_of c =
     let other : eqb c.lines.left 1 ≡ false = ne_eqb _ _ c.if-left-eq1.false in
-    let whole : length c.lines.rest.now ≤ c.line_len-len.result = omega (arith, c.if-len-len_of.true, c.len_of.ensures) in
+    let whole : length c.lines.rest.now ≤ c.line_len-len.result =
+    omega (arith, c.if-len-len_of.true, c.len_of.ensures) in
     sym (c.lines.invariant ∙ numbered_nowhere c.lines.rest.now c.line_len-len.result c.lines.left
     c.line_len-len.ensures.place whole other)
 

@@ -11,7 +11,9 @@ returns c =
     let fresh = c.input_of-input.ensures in
     let none = no_fault bytes old fresh in
     elim c.match-read_decoders.branch [
-      | in-Ok w ↦ rw w.result-is (kind_of_decoders bytes old new w.in-Ok.field-0.items fresh (w.in-Ok.ensures.reads none))
+      | in-Ok w ↦
+          let reads = w.in-Ok.ensures.reads none in
+          rw w.result-is (kind_of_decoders bytes old new w.in-Ok.field-0.items fresh reads)
       | in-Err-Line w ↦
           let reads = rw w.in-Err-Line.field-0-is at (w.in-Err-Line.ensures.reads none) in
           rw w.result-is (kind_of_bad_decoders bytes old new w.in-Err-Line.line w.in-Err-Line.fault fresh reads)

@@ -2,21 +2,22 @@ use Rattle.std.proofs.Common.{[], Some, refl}
 use Rattle.dcc_io.specs.PacketLines.{lines_by}
 use Rattle.dcc_io.specs.declared.fault.KeptFault.TheVariants.{Line, TooMuch}
 use Rattle.dcc_io.proofs.ItemsLemmas.{Gave-none, Gave-append}
-use Rattle.dcc_what.specs.Kinds.{whole}
+use Rattle.dcc_what.specs.Kinds.{input_of_bytes}
 use Rattle.dcc_what.proofs.KindLemmas.{lines_with_fault}
 use Rattle.dcc_what.proofs.reading.fault_of_lines.Goals as goal
 
 pub lines-init : goal.lines-init
 lines-init g c =
-    ([], rw c.input_of-input.ensures (Gave-none (lines_by g.L.ParsedLine.saying) (whole c.args.bytes.now) refl))
+    let none = Gave-none (lines_by g.L.ParsedLine.saying) (input_of_bytes c.args.bytes.now) refl in
+    ([], rw c.input_of-input.ensures none)
 
 pub lines-preserved-in-Ok-Some : goal.lines-preserved-in-Ok-Some
 lines-preserved-in-Ok-Some g c =
     let before = c.lines.invariant in
     let read = rw c.in-Ok-Some.field-0-is at (c.in-Ok-Some.ensures.reads before.1.fault) in (
       _,
-      Gave-append (lines_by g.L.ParsedLine.saying) (whole c.args.bytes.now) c.lines.input c.next_item.new.input before.0 _
-          before.1 read.0,
+      Gave-append (lines_by g.L.ParsedLine.saying) (input_of_bytes c.args.bytes.now) c.lines.input
+          c.next_item.new.input before.0 _ before.1 read.0,
     )
 
 pub returns-in-Err-Line : goal.returns-in-Err-Line

@@ -39,8 +39,7 @@ returns-clause-some c =
       λ _. inr (
         omega (arith, c.if-self-gt0.false),
         omega (arith, c.if-self-eq0.false),
-        omega
-            (arith, c.if-self-eq1-2.false),
+        omega (arith, c.if-self-eq1-2.false),
       ),
       λ _. refl,
     )
