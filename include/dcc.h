@@ -7,8 +7,8 @@
  * library is proved (docs/C.md). The code that calls the library is not proved. The caller must obey these rules,
  * which nothing checks:
  *
- * - Objects are whole. An object comes from a function whose name ends in _new, _power_up or _start, or is a whole
- *   copy of an object from one of these functions.
+ * - An object comes from a function whose name ends in _new, _power_up or _start, or is a complete copy of an object
+ *   from one of these functions.
  * - A dcc_framer, a dcc_sender and a dcc_station are opaque: do not write to their fields. If all bytes are zero, a
  *   dcc_framer is new, a dcc_sender has no half-bit left, and a dcc_station accepts no command.
  * - A dcc_sender is all zeros before its first dcc_sender_start, and a dcc_station before its first dcc_station_new.
@@ -102,7 +102,7 @@ uint8_t dcc_push(dcc_framer *framer, uint16_t us, dcc_outcome *outcome);
 uint8_t dcc_push_run(dcc_framer *framer, uint16_t us, uint32_t n, dcc_outcome *outcome);
 
 /* Takes the half-bits of an array in order, as calls of dcc_push would, up to the first half-bit that completes a
- * packet or a refusal. Writes the number of half-bits that the function took to *taken. If a half-bit completes a
+ * packet or a refusal. Writes to *taken how many half-bits the function took. If a half-bit completes a
  * packet or a refusal, returns 1 and stores the outcome in *outcome. Otherwise returns 0, leaves *outcome unchanged,
  * and writes len to *taken. */
 uint8_t dcc_push_many(dcc_framer *framer, const uint16_t *halves, uint64_t len, dcc_outcome *outcome,
