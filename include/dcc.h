@@ -1,7 +1,7 @@
 /* SPDX-License-Identifier: MIT OR Apache-2.0
  *
- * Digital Command Control (DCC) for C and C++. The library finds packets in half-bits, reads and sends packets,
- * simulates decoders, reads CVs, and runs a command station.
+ * Digital Command Control (DCC) for C and C++. The library finds packets and lost packets in half-bits, reads and sends
+ * packets, simulates decoders, reads CVs, and runs a command station.
  *
  * Each function reads and writes only its arguments, allocates nothing, has no state of its own, and returns. The
  * library is proved (docs/C.md). The code that calls the library is not proved. The caller must obey these rules,
@@ -9,9 +9,10 @@
  *
  * - An object comes from a function whose name ends in _new, _power_up or _start, or is a complete copy of an object
  *   from one of these functions.
- * - A dcc_framer, a dcc_sender and a dcc_station are opaque: do not write to their fields. If all bytes are zero, a
- *   dcc_framer is new, a dcc_sender has no half-bit left, and a dcc_station accepts no command.
- * - A dcc_sender is all zeros before its first dcc_sender_start, and a dcc_station before its first dcc_station_new.
+ * - A dcc_framer, a dcc_lost, a dcc_sender and a dcc_station are opaque: do not write to their fields. If all bytes are
+ *   zero, a dcc_framer and a dcc_lost are new, a dcc_sender has no half-bit left, and a dcc_station accepts no command.
+ * - A dcc_lost is all zeros before its first dcc_lost_new, a dcc_sender before its first dcc_sender_start, and a
+ *   dcc_station before its first dcc_station_new.
  * - The fields of all other objects may be read and changed. A function returns 13 if the fields that it reads are
  *   impossible for a decoder or a reading. The fields of a dcc_timing may have any values. A bool is 0 or 1.
  * - Pointers are not null, are aligned, and point to as many items as the function says. A pointer is not null even
@@ -45,7 +46,7 @@ extern "C" {
 #endif
 
 /* The version of this header and of the library, as `dcc --version` prints it. */
-#define DCC_VERSION "0.1.0"
+#define DCC_VERSION "0.2.0"
 
 /* Error codes. A function returns the number of an error code, or stores this number in the field refusal of an
  * outcome. The letter of an error code says which kind of value is refused. */
@@ -107,6 +108,65 @@ uint8_t dcc_push_run(dcc_framer *framer, uint16_t us, uint32_t n, dcc_outcome *o
  * and writes len to *taken. */
 uint8_t dcc_push_many(dcc_framer *framer, const uint16_t *halves, uint64_t len, dcc_outcome *outcome,
                       uint64_t *taken);
+
+/* ---- lost packets (NMRA S-9.1, S-9.2) ---- */
+
+/* A packet is lost at a half-bit if four conditions hold (docs/FORMATS.md):
+ *
+ * - A framer has no outcome at this half-bit, and is between bodies after it.
+ * - The half-bits end with at least 8 half-bits of ones and the body of the packet, with wider limits than the limits
+ *   of a decoder: 26 to 76 microseconds for half of a one, and 77 to 20000 microseconds for half of a zero.
+ * - The error byte of the packet is right.
+ * - No longer packet ends at this half-bit in this way.
+ *
+ * Each lost packet has at least one cause: a preamble that is too short, or half-bits outside the limits of a decoder.
+ */
+
+/* A finder of lost packets. The struct is opaque: do not read or write its fields. If all bytes are zero, the finder is
+ * new, as after dcc_lost_new. So `static dcc_lost finder;` needs no call. */
+typedef struct {
+    uint64_t kept[101];
+} dcc_lost;
+
+/* The preamble of a lost packet. If is_short is false, the preamble is long enough, and the other fields are 0. */
+typedef struct {
+    bool is_short;
+    uint8_t ones;          /* the half-bits of ones directly before the body that no outcome uses, fewer than 20 */
+    bool after_refusal;    /* true if the last refusal uses the half-bit directly before these half-bits, and this
+                              half-bit is half of a one in the wider limits */
+    uint8_t since_refusal; /* if after_refusal is true: the half-bits from the end of this refusal to the end of the
+                              packet, at most 255 */
+} dcc_short_preamble;
+
+/* The half-bits of the packet and of the ones before it that are outside the limits of a decoder. If count is 0, there
+ * are no such half-bits, and the other fields are 0. */
+typedef struct {
+    uint32_t count;
+    uint16_t least; /* the shortest of these half-bits, in microseconds */
+    uint16_t most;  /* the longest of these half-bits, in microseconds */
+} dcc_off_limits;
+
+/* A packet that a decoder does not hear, and its causes. */
+typedef struct {
+    dcc_frame frame;
+    dcc_short_preamble preamble;
+    DCC_FREE_BYTE
+    dcc_off_limits ones;  /* the half-bits of ones outside 52 to 64 microseconds */
+    dcc_off_limits zeros; /* the half-bits of zeros outside 90 to 10000 microseconds */
+} dcc_lost_packet;
+
+/* Makes a finder new: the finder has then seen no half-bits. */
+void dcc_lost_new(dcc_lost *finder);
+
+/* Takes a half-bit of us microseconds. Returns 1 if a packet is lost at this half-bit, and stores the packet with its
+ * causes in *packet. Otherwise returns 0 and leaves *packet unchanged. */
+uint8_t dcc_lost_push(dcc_lost *finder, uint16_t us, dcc_lost_packet *packet);
+
+/* Takes half-bits of us microseconds, as calls of dcc_lost_push would, up to the first half-bit at which a packet is
+ * lost, and at most n. If a packet is lost, stores the packet with its causes in *packet, and returns the number of
+ * this half-bit, counted from 1: the function then took this number of half-bits. Otherwise takes all n half-bits,
+ * returns 0 and leaves *packet unchanged. */
+uint32_t dcc_lost_push_run(dcc_lost *finder, uint16_t us, uint32_t n, dcc_lost_packet *packet);
 
 /* ---- packets (NMRA S-9.2.1) ---- */
 
@@ -416,6 +476,10 @@ DCC_ASSERT(sizeof(bool) == 1);
 DCC_ASSERT(sizeof(dcc_frame) == 7);
 DCC_ASSERT(sizeof(dcc_framer) == 24);
 DCC_ASSERT(sizeof(dcc_outcome) == 12);
+DCC_ASSERT(sizeof(dcc_lost) == 808);
+DCC_ASSERT(sizeof(dcc_short_preamble) == 4);
+DCC_ASSERT(sizeof(dcc_off_limits) == 8);
+DCC_ASSERT(sizeof(dcc_lost_packet) == 28);
 DCC_ASSERT(sizeof(dcc_packet) == 18);
 DCC_ASSERT(sizeof(dcc_timing) == 8);
 DCC_ASSERT(sizeof(dcc_sender) == 16);

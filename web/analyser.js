@@ -372,6 +372,11 @@ const readRecording = (form, text, key, tell) => {
     if (!(error instanceof Unreadable)) throw error;
     sentence = error.message;
   }
+  return resultOf(form, recording, sentence);
+};
+
+/** Returns what was read of a file: its half-bits, its channels, and why the rest was not read, or null. */
+const resultOf = (form, recording, sentence) => {
   const { halves, channels, picked } = recording;
   const refused = recording.isFull ? tooLong() : sentence && refusal(null, `${form}: ${sentence}.`);
   const offered = channels.filter((it, place) => place < CHANNELS_OFFERED || it === picked);

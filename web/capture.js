@@ -36,6 +36,13 @@ class Halves {
   }
 }
 
+/** Returns true if more than half of the half-bits are longer than half of a zero. */
+const isInNanoseconds = (halves) => {
+  let many = 0;
+  for (let at = 0; at < halves.count; at += 1) many += halves.us[at] > 10000;
+  return 2 * many > halves.count;
+};
+
 /** A text with an error: the error code as `dcc` writes it, if it has one, and a sentence. */
 const refusal = (fault, text) => ({ fault, text });
 

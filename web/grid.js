@@ -17,6 +17,8 @@ const cell = (name, className, text) => {
 const cellsOf = (dcc, outcome, strip) => {
   const what = cell('td', 'what');
   what.append(make('span', 'words', told(dcc, outcome)));
+  const people = outcome.refusal ? '' : peopleWords(dcc.packetOf(outcome.bytes), outcome.bytes);
+  if (people) what.append(make('span', 'people', people));
   if (strip.fault) what.append(make('span', 'why', strip.fault.text));
   else what.append(make('span', 'bytes', outcome.bytes.map((it) => hex([it])).join(' ')));
   const number = cell('th', 'number');
@@ -36,9 +38,20 @@ const drawingCell = (halves, strip, description, zoom) => {
   return it;
 };
 
-/** Scrolls drawings that are wider than their cell to their end, where the packet is. */
+/** The width in pixels below which a drawing begins at the preamble, since it shows less than half of a packet. */
+const NARROW = 500;
+
+/** Scrolls drawings that are wider than their cell to their end, where the packet is. The drawing of a lost packet is
+ * scrolled to the cause, and a drawing in a narrow cell to the preamble. */
 const showEnds = (element) => {
-  for (const it of element.querySelectorAll('.track')) it.scrollLeft = it.scrollWidth;
+  for (const it of element.querySelectorAll('.track')) {
+    const { strip, edges } = it.querySelector('svg');
+    const xOf = (place) => edges[place - strip.from];
+    const preamble = strip.parts.find((part) => part.kind === 'preamble');
+    if (strip.isLost) it.scrollLeft = xOf(strip.fault.from) - it.clientWidth / 4;
+    else if (it.clientWidth < NARROW && preamble) it.scrollLeft = xOf(preamble.from) - 3;
+    else it.scrollLeft = it.scrollWidth;
+  }
 };
 
 class Grid {
@@ -50,16 +63,21 @@ class Grid {
     body.addEventListener('mousemove', (event) => this.hover(event));
   }
 
+  /** The items of which the rows show some. */
+  get items() {
+    return this.capture.outcomes;
+  }
+
   element(n) {
     return this.body.querySelector(`[data-row="${n}"]`);
   }
 
-  /** Returns the row with a number, which shows an outcome of the capture. */
+  /** Returns the row with a number, which shows an item. */
   draw(n, i, zoom) {
-    const { halves, outcomes } = this.capture;
-    const outcome = outcomes[i];
-    const strip = stripOf(halves, outcome, outcomes[i - 1]);
-    const row = make('tr', outcome.refusal ? 'refused' : 'packet');
+    const { halves } = this.capture;
+    const outcome = this.items[i];
+    const strip = stripOf(halves, outcome, this.items[i - 1]);
+    const row = make('tr', outcome.lost ? 'lost' : outcome.refusal ? 'refused' : 'packet');
     row.dataset.row = n;
     row.tabIndex = -1;
     row.setAttribute('role', 'row');

@@ -18,6 +18,8 @@ CHROMIUM = os.environ.get("CHROMIUM") or next(
     (it for it in ("chromium", "chromium-browser", "google-chrome") if shutil.which(it)), None
 )
 PATIENCE = 120
+# the values of the filter's fields in a new page
+FILTER = ["", True, "all", False, ""]
 KEYS = {
     "Tab": 9,
     "Enter": 13,
@@ -191,6 +193,16 @@ class Browser:
         )
         self.wait(f"Number(document.body.dataset.read) > {was}")
 
+    def drop_garbage(self):
+        self.ask("HeapProfiler.collectGarbage")
+
+    def filter(self):
+        fields = ("who", "own", "kind", "fold", "find")
+        return self.js(
+            "%s.map((it) => document.getElementById(it)).map((it) => (it.type === 'checkbox' ? it.checked : it.value))"
+            % json.dumps(fields)
+        )
+
     def text(self, what):
         return self.js(f"document.querySelector({json.dumps(what)}).textContent")
 
@@ -300,8 +312,11 @@ def check(name, holds, more=""):
 
 
 def attempt(part, *words):
+    """Runs a part of the tests. A part leaves the filter of the page as it found it."""
     try:
         part(*words)
+        if words and isinstance(words[0], Browser):
+            same(f"{part.__name__} leaves the filter as it was", words[0].filter(), FILTER)
     except (RuntimeError, OSError) as error:
         check(part.__name__, False, error)
 

@@ -1,5 +1,5 @@
-// The outcomes that the table shows: those that match the filter. If repeats are folded, only the first of successive
-// equal outcomes is shown.
+// The outcomes and lost packets that the table shows: those that match the filter. If repeats are folded, only the
+// first of successive equal items is shown.
 
 // the kinds of packets, in the order of include/dcc.h
 const ALL_KINDS = [...Array(13).keys()];
@@ -13,7 +13,8 @@ const KINDS = {
   all: { name: 'all', kinds: ALL_KINDS, withRefusals: true },
   busy: { name: 'all but idle', kinds: ALL_KINDS.slice(1), withRefusals: true },
   refusals: { name: 'refusals', kinds: [], withRefusals: true },
-  packets: { name: 'packets', kinds: ALL_KINDS },
+  lost: { name: 'lost packets', kinds: ALL_KINDS, isLost: true },
+  packets: { name: 'packets', kinds: ALL_KINDS, isLost: false },
   idle: { name: 'idle', kinds: [IDLE] },
   reset: { name: 'reset', kinds: [RESET] },
   speed: { name: 'speed', kinds: [SPEED28, SPEED128] },
@@ -34,24 +35,59 @@ const once = (test) => {
   };
 };
 
-/** Returns true if an outcome matches the filter: its kind, and a decoder if one is named. A refusal matches each
- * decoder. */
-const wantedBy = (dcc, kind, decoder) => {
-  const { kinds, withRefusals } = KINDS[kind];
+/** Returns true if an item matches the filter: its kind, and a decoder if one is named. A refusal matches each decoder.
+ * A lost packet matches as if a decoder had heard it. */
+const wantedBy = (dcc, kind, decoder, found = () => true) => {
+  const { kinds, withRefusals, isLost } = KINDS[kind];
   const isOfKind = once((bytes) => kinds.includes(dcc.kind(bytes)));
   const isForIt = once((bytes) => !decoder || dcc.hears(decoder, bytes));
-  return ({ refusal, bytes }) => (refusal ? Boolean(withRefusals) : isOfKind(bytes) && isForIt(bytes));
+  return (item) => {
+    const { refusal, bytes, lost } = item;
+    if (!found(item)) return false;
+    if (refusal) return Boolean(withRefusals);
+    return (isLost === undefined || isLost === Boolean(lost)) && isOfKind(bytes) && isForIt(bytes);
+  };
 };
 
-/** Returns the rows: the place of the first outcome, the place of the last one, and their number. Equal frames are
- * one list. */
-const rowsOf = (outcomes, isWanted, isFolded) => {
+/** Returns a test of items: their words, their words for people, or their bytes have a text. Blanks between digits of
+ * bytes do not count. */
+const finderOf = (dcc, text) => {
+  const words = text.trim().toLowerCase();
+  const digits = words.replace(/\s+/g, '');
+  if (!words) return () => true;
+  const isFound = once((bytes) => peopleWords(dcc.packetOf(bytes), bytes).toLowerCase().includes(words));
+  return (item) => {
+    const hasBytes = /^[0-9a-f]+$/.test(digits) && hex(item.bytes).includes(digits);
+    return hasBytes || told(dcc, item).toLowerCase().includes(words) || (!item.refusal && isFound(item.bytes));
+  };
+};
+
+/** Returns the place of a half-bit that a text names: its number, or a time in seconds (s), milliseconds (ms) or
+ * microseconds (us). Returns the number of an item that ends there or later, or null. */
+const itemAt = (items, text) => {
+  const [, number, unit] = text.trim().match(/^([0-9]+(?:\.[0-9]+)?) *(s|ms|us|µs)?$/) ?? [];
+  if (number === undefined) return null;
+  const times = { s: 1e6, ms: 1e3, us: 1, µs: 1 };
+  const isThere = unit ? (it) => it.time >= number * times[unit] : (it) => it.at >= Number(number);
+  const at = items.findIndex(isThere);
+  return at < 0 ? items.length - 1 : at;
+};
+
+/** Returns true if two items have equal rows. */
+const isRepeat = (a, b) => {
+  const [one, other] = [a, b].map((it) => (it.lost ? causesText(it.lost) : ''));
+  return a.refusal === b.refusal && a.bytes === b.bytes && one === other;
+};
+
+/** Returns the rows: the place of the first item, the place of the last one, and their number. Equal frames are one
+ * list. */
+const rowsOf = (items, isWanted, isFolded) => {
   const rows = [];
   let last = null;
-  outcomes.forEach((it, i) => {
+  items.forEach((it, i) => {
     if (!isWanted(it)) return;
-    const before = last && outcomes[last.last];
-    if (isFolded && before && before.refusal === it.refusal && before.bytes === it.bytes) {
+    const before = last && items[last.last];
+    if (isFolded && before && isRepeat(before, it)) {
       last.last = i;
       last.times += 1;
     } else {

@@ -1,6 +1,8 @@
 // The functions of the module (include/dcc.h), which are proved. The places of the objects in memory are not proved.
 
 const OUTCOME_BYTES = 12;
+const LOST_BYTES = 808;
+const LOST_PACKET_BYTES = 28;
 const HALVES_EACH = 32768;
 const LINE_BYTES = 41;
 const CVS = 1024;
@@ -15,11 +17,12 @@ const lackOfBrowser = () => {
   if (typeof WebAssembly !== 'object' || typeof BigInt !== 'function') {
     return 'This browser cannot run the page: it has no WebAssembly, or WebAssembly is disabled.';
   }
-  if (!WebAssembly.validate(SMALLEST)) {
-    return 'This browser cannot run the page: its WebAssembly has no 64-bit memory.';
-  }
   return null;
 };
+
+/** Returns the name of the module for this browser: with a 64-bit memory, whose sizes are those of the proofs, if the
+ * browser has one. */
+const moduleOfBrowser = () => (WebAssembly.validate(SMALLEST) ? 'module' : 'module32');
 
 /** Checks the result of a function that can have no error here. */
 const checked = (call, answer) => {
@@ -36,6 +39,8 @@ class Dcc {
 
   constructor(calls) {
     this.calls = calls;
+    // a place in a 64-bit memory is a BigInt
+    this.placeOf = typeof calls.__heap_base.value === 'bigint' ? BigInt : Number;
     // the objects, one after the other
     let end = (Number(calls.__heap_base.value) + 15) & ~15;
     const room = (bytes) => {
@@ -45,6 +50,8 @@ class Dcc {
     };
     this.framer = room(24);
     this.outcome = room(OUTCOME_BYTES);
+    this.finder = room(LOST_BYTES);
+    this.lostPacket = room(LOST_PACKET_BYTES);
     this.frame = room(7);
     this.line = room(LINE_BYTES);
     this.packet = room(18);
@@ -89,7 +96,8 @@ class Dcc {
    * or 0, and the bytes. */
   outcomes(halves, tell = () => {}) {
     const { dcc_framer_new: begin, dcc_push_many: push, memory } = this.calls;
-    const [framer, outcome, taken] = [this.framer, this.outcome, this.taken].map(BigInt);
+    const { placeOf } = this;
+    const [framer, outcome, taken] = [this.framer, this.outcome, this.taken].map((it) => placeOf(it));
     const room = new Uint16Array(memory.buffer, this.halves, HALVES_EACH);
     const counted = new Uint32Array(memory.buffer, this.taken, 1);
     const view = new DataView(memory.buffer, this.outcome, OUTCOME_BYTES);
@@ -100,7 +108,7 @@ class Dcc {
       const part = halves.us.subarray(from, Math.min(from + HALVES_EACH, halves.count));
       room.set(part);
       for (let at = 0; at < part.length; ) {
-        const isEnd = push(framer, BigInt(this.halves + 2 * at), BigInt(part.length - at), outcome, taken);
+        const isEnd = push(framer, placeOf(this.halves + 2 * at), BigInt(part.length - at), outcome, taken);
         for (const end = at + counted[0]; at < end; at += 1) time += part[at];
         if (!isEnd) continue;
         const bytes = this.frameAt(this.outcome + 6, view.getUint8(5));
@@ -111,35 +119,76 @@ class Dcc {
     return list;
   }
 
+  /** Returns the lost packets in half-bits: the number of the last half-bit, from 1, its end in microseconds, the
+   * bytes, and the causes. */
+  lost(halves, tell = () => {}) {
+    const { dcc_lost_push: push } = this.calls;
+    const [finder, packet] = [this.finder, this.lostPacket].map((it) => this.placeOf(it));
+    this.bytesAt(this.finder, LOST_BYTES).fill(0);
+    const { us, count: end } = halves;
+    const list = [];
+    let time = 0;
+    for (let at = 0; at < end; at += 1) {
+      time += us[at];
+      if (push(finder, us[at], packet)) list.push({ at: at + 1, time, refusal: 0, ...this.lostAt(at + 1) });
+      if (at % TOLD_EACH === 0) tell(at / end);
+    }
+    return list;
+  }
+
+  /** Returns the lost packet that a call wrote, which ends with half-bit `end`: its bytes and its causes. */
+  lostAt(end) {
+    const view = new DataView(this.memory.buffer, this.lostPacket, LOST_PACKET_BYTES);
+    const off = (at) => {
+      const n = view.getUint32(at, true);
+      return n ? { count: n, least: view.getUint16(at + 4, true), most: view.getUint16(at + 6, true) } : null;
+    };
+    const [isShort, ones, isAfter, since] = this.bytesAt(this.lostPacket + 7, 4);
+    const preamble = isShort ? { ones, after: isAfter ? end - since : null } : null;
+    const bytes = this.frameAt(this.lostPacket + 1, view.getUint8(0));
+    return { bytes, lost: { preamble, ones: off(12), zeros: off(20) } };
+  }
+
   /** Writes the bytes of a frame into the memory, and returns their place and length as arguments. */
   lay(bytes) {
     this.memory.set(bytes, this.frame);
-    return [BigInt(this.frame), BigInt(bytes.length)];
+    return [this.placeOf(this.frame), BigInt(bytes.length)];
   }
 
   /** Returns the packet line of the bytes of a packet. */
   words(bytes) {
-    checked('dcc_line', this.calls.dcc_line(...this.lay(bytes), BigInt(this.line)));
+    checked('dcc_line', this.calls.dcc_line(...this.lay(bytes), this.placeOf(this.line)));
     const line = this.bytesAt(this.line, LINE_BYTES);
     return String.fromCharCode(...line.subarray(0, line.indexOf(0)));
   }
 
   /** Returns the kind of a packet, a number of include/dcc.h. */
   kind(bytes) {
-    checked('dcc_read', this.calls.dcc_read(...this.lay(bytes), BigInt(this.packet)));
+    checked('dcc_read', this.calls.dcc_read(...this.lay(bytes), this.placeOf(this.packet)));
     return this.memory[this.packet];
+  }
+
+  /** Returns the fields of a packet (include/dcc.h). */
+  packetOf(bytes) {
+    const kind = this.kind(bytes);
+    const at = this.packet;
+    const word = (place) => this.memory[at + place] + 256 * this.memory[at + place + 1];
+    const [, to, , , forward, bits, group, state, on] = this.bytesAt(at, 9);
+    const [value, place, one, output, aspect] = this.bytesAt(at + 12, 5);
+    const [address, cv] = [word(2), word(10)];
+    return { kind, to, address, forward, bits, group, state, on, cv, value, place, one, output, aspect };
   }
 
   /** Returns a new locomotive decoder with these CVs: its kind and its fields. */
   newLoco(cvs) {
     this.bytesAt(this.cvs, CVS).set(cvs);
-    this.calls.dcc_loco_new(BigInt(this.decoder), BigInt(this.cvs));
+    this.calls.dcc_loco_new(this.placeOf(this.decoder), this.placeOf(this.cvs));
     return { kind: 'loco', numbers: this.bytesAt(this.decoder, DECODER_BYTES.loco).slice() };
   }
 
   /** Returns a new accessory decoder. */
   newBoard(number) {
-    checked('dcc_board_new', this.calls.dcc_board_new(BigInt(this.decoder), number));
+    checked('dcc_board_new', this.calls.dcc_board_new(this.placeOf(this.decoder), number));
     return { kind: 'board', numbers: this.bytesAt(this.decoder, DECODER_BYTES.board).slice() };
   }
 
@@ -153,7 +202,7 @@ class Dcc {
   /** Returns true if the decoder in the memory hears a packet. */
   isHeard(kind, bytes) {
     const call = kind === 'loco' ? this.calls.dcc_loco_hears : this.calls.dcc_board_hears;
-    checked(`dcc_${kind}_hears`, call(BigInt(this.decoder), ...this.lay(bytes), BigInt(this.heard)));
+    checked(`dcc_${kind}_hears`, call(this.placeOf(this.decoder), ...this.lay(bytes), this.placeOf(this.heard)));
     return this.memory[this.heard] === 1;
   }
 
@@ -163,14 +212,16 @@ class Dcc {
     const call = kind === 'loco' ? this.calls.dcc_loco_apply : this.calls.dcc_board_apply;
     this.memory.set(numbers, this.decoder);
     for (const bytes of packets) {
-      if (this.isHeard(kind, bytes)) checked(`dcc_${kind}_apply`, call(BigInt(this.decoder), ...this.lay(bytes)));
+      if (!this.isHeard(kind, bytes)) continue;
+      checked(`dcc_${kind}_apply`, call(this.placeOf(this.decoder), ...this.lay(bytes)));
     }
     return { kind, numbers: this.bytesAt(this.decoder, numbers.length).slice() };
   }
 }
 
 /** Returns the text of `dcc show --words` after the number of the half-bit. */
-const told = (dcc, { refusal, bytes }) => {
+const told = (dcc, { refusal, bytes, lost }) => {
+  if (lost) return `lost ${dcc.words(bytes)}: ${causesText(lost)}`;
   if (!refusal) return dcc.words(bytes);
   return `refused H${refusal}${bytes.length ? ` ${hex(bytes)}` : ''}`;
 };

@@ -34,7 +34,7 @@ def encoded(program, lines):
 
 def rows_shown(browser):
     """All rows of the list, on whichever page, as their words and how many they stand for."""
-    return browser.js("page.table.rows.map(({ first, times }) => [told(page.dcc, page.outcomes[first]), times])")
+    return browser.js("page.table.rows.map(({ first, times }) => [told(page.dcc, page.capture.items[first]), times])")
 
 
 def times(browser):
@@ -79,19 +79,37 @@ def kind_of(words):
     return {"accessory": "accessories", "signal": "signals", "frame": "others"}.get(first, first)
 
 
+def listed(program, capture):
+    """The outcomes and the lost packets in the order of their ends, as the program writes them, without places."""
+    words = [program, "lost", "--words"]
+    lost = subprocess.run(words, input=capture, capture_output=True, text=True, check=True).stdout
+    lines = [it.split(" ", 1) for it in [*show(program, capture)[0].splitlines(), *lost.splitlines()]]
+    return [it for _, it in sorted(lines, key=lambda line: int(line[0]))]
+
+
+def packet_in(line):
+    """The packet line of a packet that was heard or lost."""
+    return line.removeprefix("lost ").split(":")[0]
+
+
 def filters(browser, program):
     capture = encoded(program, random_lines(3000)) + some_noise(200)
     browser.paste(capture)
-    lines = [it.split(" ", 1)[1] for it in show(program, capture)[0].splitlines()]
-    packets = [it for it in lines if not it.startswith("refused")]
+    lines = listed(program, capture)
+    lost = [it for it in lines if it.startswith("lost")]
+    packets = [it for it in lines if not it.startswith(("refused", "lost"))]
+    sent = [it for it in lines if not it.startswith("refused")]
     check("the track has packets of all kinds", len({kind_of(it) for it in packets}) == 9)
     for kind in ("idle", "reset", "speed", "functions", "states", "cvs", "accessories", "signals", "others"):
         browser.pick("kind", kind)
-        same(f"the kind {kind}", rows_shown(browser), [[it, 1] for it in packets if kind_of(it) == kind])
+        same(f"the kind {kind}", rows_shown(browser), [[it, 1] for it in sent if kind_of(packet_in(it)) == kind])
     browser.pick("kind", "refusals")
     same("refusals alone", rows_shown(browser), [[it, 1] for it in lines if it.startswith("refused")])
     browser.pick("kind", "busy")
-    same("all but idle", rows_shown(browser), [[it, 1] for it in lines if it != "idle"])
+    same("all but idle", rows_shown(browser), [[it, 1] for it in lines if packet_in(it) != "idle"])
+    browser.pick("kind", "lost")
+    same("lost packets alone", rows_shown(browser), [[it, 1] for it in lost])
+    check("some packets are lost", len(lost) > 2)
     browser.pick("kind", "packets")
     for who in WHO[::2]:
         browser.pick("who", who)
@@ -100,7 +118,7 @@ def filters(browser, program):
         check(f"{who} hears something and not all", 0 < len(wanted) < len(packets))
     browser.pick("who", "s3")
     browser.pick("kind", "all")
-    wanted = [it for it in lines if it.startswith("refused") or hears("s3", it)]
+    wanted = [it for it in lines if it.startswith("refused") or hears("s3", packet_in(it))]
     same("a refusal may have been for anyone", rows_shown(browser), [[it, 1] for it in wanted])
     browser.js("document.getElementById('fold').click()")
     folded = [[it, len(list(them))] for it, them in itertools.groupby(wanted)]
@@ -724,7 +742,7 @@ def timings(browser, program):
     browser.js("document.getElementById('timing').open = true; page.showTimings()")
     text = "document.getElementById('timing-lines').value"
     told = browser.js(text)
-    some = "(halves|time|packets|refused H5|gap|ones c|ones m|differences mean|sums m)"
+    some = "(halves|time|packets|refused H5|lost|preamble|gap|ones c|ones m|differences mean|sums m)"
     same(
         "the figures of the example",
         [it for it in told.splitlines() if re.match(some, it)],
@@ -733,6 +751,8 @@ def timings(browser, program):
             "time 27515",
             "packets 3",
             "refused H5 1",
+            "lost 0",
+            "preamble least 28",
             "gap most 13021",
             "ones count 198",
             "ones most 59",
@@ -864,19 +884,22 @@ def largest():
             open_all(browser)
             most, _ = peak_of(browser)
             print(f"with all of it opened {most} MB at most")
-            check("within 400 MB with all of it opened", most < 400, most)
+            check("within 360 MB with all of it opened", most < 360, most)
             same("no complaint at the largest capture", browser.complaints, [])
         finally:
             browser.close()
 
 
 def open_all(browser):
-    """Opens one after the other what the page has for a capture."""
+    """Opens one after the other what the page has for a capture. The browser drops garbage between them, so the most
+    memory is that of the page and not that of garbage."""
     browser.js("document.getElementById('timing').open = true; page.showTimings()")
     check("its durations are told", browser.sees(".bar") >= 6)
+    browser.drop_garbage()
     browser.pick("who", "s3")
     browser.js("page.table.choose(page.table.rows.length - 1)")
     check("a state at its end is told", browser.sees("#rows .state") == 1)
+    browser.drop_garbage()
     browser.js("document.getElementById('fold').click()")
     browser.pick("kind", "speed")
     browser.pick("kind", "all")
@@ -884,8 +907,10 @@ def open_all(browser):
     for _ in range(12):
         browser.js("document.getElementById('back').click(); document.body.offsetHeight")
     check("its list is gone through", browser.js("page.table.first") > 0 and browser.sees("#rows [data-row]") == 50)
+    browser.drop_garbage()
     outcomes = browser.js("page.outcomes.length")
     check("its list is there as text", outcomes > 100000 and len(browser.listing().splitlines()) == outcomes)
+    browser.drop_garbage()
     browser.js("document.getElementById('comparison').open = true")
     browser.js("page.second.put(%s)" % json.dumps(" ".join(map(str, body([3, 0x62, 0x61])))))
     browser.wait("document.querySelector('#sides .side') !== null")

@@ -15,6 +15,8 @@ class Page {
     this.second = new Source('second-', work, (read) => this.takeSecond(read));
     $('kind').append(...Object.entries(KINDS).map(([key, { name }]) => new Option(name, key)));
     for (const id of ['kind', 'own', 'fold']) $(id).addEventListener('change', () => this.list());
+    $('find').addEventListener('input', () => this.list());
+    $('go').addEventListener('change', () => this.go());
     for (const id of ['who', 'second-who']) $(id).addEventListener('input', () => this.name($(id).value));
     $('zoom').addEventListener('input', () => this.scale());
     $('listing').addEventListener('toggle', () => this.writeListing());
@@ -44,7 +46,9 @@ class Page {
   heard({ count: n, buffer, outcomes: packed, ...read }) {
     const halves = new Halves(n, buffer);
     const outcomes = unpackOutcomes(this.dcc, packed);
-    return { ...read, halves, outcomes, tail: tailOf(halves, outcomes[outcomes.length - 1]) };
+    const lost = read.lost.map((it) => ({ ...it, bytes: this.dcc.frameOf(it.bytes) }));
+    const items = mergedItems(outcomes, lost);
+    return { ...read, halves, outcomes, lost, items, tail: tailOf(halves, items[items.length - 1]) };
   }
 
   async take(read) {
@@ -76,12 +80,15 @@ class Page {
   }
 
   sumUp() {
-    const { halves, outcomes, name } = this.capture;
+    const { halves, outcomes, lost, name } = this.capture;
     const refusals = outcomes.filter((it) => it.refusal).length;
-    const found = `${plural(outcomes.length - refusals, 'packet')}, ${count(refusals)} refused`;
+    const packets = plural(outcomes.length - refusals, 'packet');
+    const found = `${packets}, ${count(refusals)} refused, ${count(lost.length)} lost`;
     const told = `${plural(halves.count, 'half-bit')}, ${found}.`;
+    const nanoseconds = ' These look like nanoseconds: most are longer than 10000 microseconds.';
+    const long = halves.count && isInNanoseconds(halves) ? nanoseconds : '';
     const why = ' Nowhere do 20 halves of ones stand directly before a half of a zero whose packet ends.';
-    $('sum').textContent = `${name}: ${told}${halves.count && !outcomes.length ? why : ''}`;
+    $('sum').textContent = `${name}: ${told}${long}${halves.count && !outcomes.length && !lost.length ? why : ''}`;
     $('result').hidden = halves.count === 0;
   }
 
@@ -103,10 +110,21 @@ class Page {
   list() {
     const decoder = this.decoder();
     const kind = $('kind').value;
-    const isWanted = wantedBy(this.dcc, kind, $('own').checked ? decoder?.fresh : null);
-    const rows = rowsOf(this.outcomes, isWanted, $('fold').checked);
-    this.table.show(this.capture, rows, decoder, kind === 'all');
+    const found = finderOf(this.dcc, $('find').value);
+    const isWanted = wantedBy(this.dcc, kind, $('own').checked ? decoder?.fresh : null, found);
+    const rows = rowsOf(this.capture.items, isWanted, $('fold').checked);
+    this.table.show(this.capture, rows, decoder, kind === 'all' && !$('find').value.trim());
     this.tellFilter(rows, decoder);
+  }
+
+  /** Chooses the row of a half-bit or a time. */
+  go() {
+    const { rows } = this.table;
+    const item = itemAt(this.capture.items, $('go').value);
+    if (item === null || !rows.length) return;
+    const n = rows.findIndex((it) => it.last >= item);
+    this.table.choose(n < 0 ? rows.length - 1 : n);
+    this.table.element(this.table.chosen).scrollIntoView({ block: 'center' });
   }
 
   tellFilter(rows, decoder) {
@@ -116,7 +134,8 @@ class Page {
     if (word && !decoder) {
       says.push(`“${word}” names no decoder. Names are s1 to s127, l0 to l10239, none, and b0 to b510.`);
     }
-    if (shown < this.outcomes.length) says.push(`The table shows ${count(shown)} of ${count(this.outcomes.length)}.`);
+    const all = this.capture.items.length;
+    if (shown < all) says.push(`The table shows ${count(shown)} of ${count(all)}.`);
     $('who-says').textContent = says.join(' ');
   }
 
@@ -156,7 +175,7 @@ class Page {
   }
 
   showTimings() {
-    if ($('timing').open && this.halves.count) showTimings(timingsOf(this.halves, this.outcomes));
+    if ($('timing').open && this.halves.count) showTimings(timingsOf(this.halves, this.outcomes, this.capture.lost));
   }
 
   async compare() {
@@ -173,11 +192,10 @@ const begin = async () => {
     $('fault-text').textContent = text;
   };
   if (lack) {
-    const others = 'Chromium, Chrome and Edge have it from version 133, Firefox from 134.';
-    return end(`${lack} ${others} Without a browser, “dcc show --words” writes the same list.`);
+    return end(`${lack} Without a browser, “dcc show --words” writes the same list.`);
   }
   try {
-    const module = decode($('module').textContent.trim());
+    const module = decode($(moduleOfBrowser()).textContent.trim());
     page = new Page(await Dcc.load(module), new Work(module));
   } catch (error) {
     return end(`The module of this page cannot be started here: ${error.message}`);

@@ -10,6 +10,10 @@ class Table extends Grid {
     for (const [id, to] of Object.entries(pages)) $(id).addEventListener('click', () => this.turn(to()));
   }
 
+  get items() {
+    return this.capture.items;
+  }
+
   /** Shows rows of a capture, and the state of a decoder or null. The half-bits after the last outcome are shown if
    * the filter matches them. */
   show(capture, rows, decoder, withTail) {
@@ -44,7 +48,7 @@ class Table extends Grid {
     const { first, last, times } = this.rows[n];
     const row = this.draw(n, first, this.zoom);
     if (times > 1) {
-      const { at, time } = this.capture.outcomes[last];
+      const { at, time } = this.items[last];
       const repeats = `${count(times)} times, the last at ${at}, ${milliseconds(time)}`;
       row.querySelector('.what').append(make('span', 'times', repeats));
     }
@@ -85,7 +89,8 @@ class Table extends Grid {
     row.setAttribute('role', 'row');
     const held = cell('td', 'held');
     held.colSpan = 3;
-    held.append(...this.tellState(this.capture.outcomes[this.rows[n].last], this.rows[n].last + 1));
+    const item = this.items[this.rows[n].last];
+    held.append(...this.tellState(item, item.heard));
     row.append(held);
     return row;
   }

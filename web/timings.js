@@ -62,12 +62,39 @@ const takeBits = ({ us }, from, to, { differences, sums }) => {
   }
 };
 
+/** The greatest preamble that is counted exactly, in half-bits. */
+const MOST_PREAMBLE = 65535;
+
+/** Returns the shortest preamble of the packets that are seen or lost, in half-bits of ones that no outcome uses.
+ * Returns null if there are no such packets. A half-bit counts as half of a one by the limits of lost packets. */
+const shortestPreamble = (halves, outcomes, packets, lost) => {
+  let [least, before] = [null, 0];
+  for (const { at, bytes, lost: causes } of [packets, lost].flat()) {
+    const start = at - 18 * bytes.length - 2;
+    // the number of outcomes that end before this body
+    while (before > 0 && outcomes[before - 1].at > start) before -= 1;
+    while (before < outcomes.length && outcomes[before].at <= start) before += 1;
+    const used = before ? outcomes[before - 1].at - onesLeft(outcomes[before - 1]) : 0;
+    // an unfinished body can use the ones of a preamble that is too short
+    const ones = causes?.preamble?.ones ?? start - preambleBefore(halves, start, used, nearestClassOf);
+    least = Math.min(least ?? MOST_PREAMBLE, ones);
+  }
+  return least;
+};
+
 /** Returns the statistics of a capture. */
-const timingsOf = (halves, outcomes) => {
+const timingsOf = (halves, outcomes, lost = []) => {
   const figures = Object.fromEntries(FIGURES.map((it) => [it, new Figure()]));
   const gaps = new Figure();
   const counts = countDurations(halves);
   counts.forEach((n, us) => n && figures[listOfHalf(us)].take(us, n));
+  // the limits are compared with all half-bits but those of RailCom cutouts
+  const cutouts = [outcomes, lost].flatMap((it) => cutoutsOf(halves, it));
+  const others = counts.slice();
+  for (const at of cutouts) for (const it of [at, at + 1]) others[halves.us[it]] -= 1;
+  const judged = Object.fromEntries(FIGURES.map((it) => [it, figures[it]]));
+  for (const it of ['ones', 'zeros', 'below', 'between', 'above']) judged[it] = new Figure();
+  others.forEach((n, us) => n && judged[listOfHalf(us)].take(us, n));
   const packets = outcomes.filter((it) => !it.refusal);
   packets.forEach(({ at, bytes, time }, i) => {
     // the body of the packet and the ten ones before it
@@ -77,14 +104,16 @@ const timingsOf = (halves, outcomes) => {
   const refused = [1, 2, 3, 4, 5].map((cause) => outcomes.filter((it) => it.refusal === cause).length);
   const time = ['ones', 'zeros', 'below', 'between', 'above'].reduce((sum, it) => sum + figures[it].sum, 0);
   const gap = gaps.count ? gaps.most : null;
-  return { halves: halves.count, time, packets: packets.length, refused, gap, figures, counts };
+  const preamble = shortestPreamble(halves, outcomes, packets, lost);
+  const told = { halves: halves.count, time, packets: packets.length, refused, lost: lost.length, preamble, gap };
+  return { ...told, figures, judged, counts: others, cutouts: cutouts.length };
 };
 
 /** Returns the statistics as the text of `dcc timing`. */
-const timingText = ({ halves, time, packets, refused, gap, figures }) => {
+const timingText = ({ halves, time, packets, refused, lost, preamble, gap, figures }) => {
   const lines = [`halves ${halves}`, `time ${time}`, `packets ${packets}`];
   refused.forEach((n, i) => lines.push(`refused H${i + 1} ${n}`));
-  lines.push(`gap most ${gap ?? 'none'}`);
+  lines.push(`lost ${lost}`, `preamble least ${preamble ?? 'none'}`, `gap most ${gap ?? 'none'}`);
   for (const name of FIGURES) {
     ['count', 'least', 'most', 'mean'].forEach((word, i) => lines.push(`${name} ${word} ${figures[name].words()[i]}`));
     for (const [who, limits] of Object.entries(LIMITS[name] ?? {})) lines.push(`${name} ${who} ${limits.join(' ')}`);
@@ -131,11 +160,15 @@ const showTimings = (timings) => {
   const head = make('tr');
   const titles = ['Microseconds', 'count', 'least', 'greatest', 'mean', 'limits of a station', 'limits of a decoder'];
   head.append(...titles.map((it) => Object.assign(make('th', '', it), { scope: 'col' })));
-  $('figures').replaceChildren(head, ...FIGURES.map((it) => figureRow(it, timings.figures[it])));
-  const { gap } = timings;
+  const { judged } = timings;
+  $('figures').replaceChildren(head, ...FIGURES.map((it) => figureRow(it, judged[it])));
+  const { preamble, gap, cutouts } = timings;
   const longest = gap === null ? '' : ` Longest time between the ends of two packets: ${milliseconds(gap)}.`;
+  const shortest = preamble === null ? '' : ` Shortest preamble: ${plural(preamble, 'half-bit')}.`;
   const refused = timings.refused.map((n, i) => `H${i + 1} ${count(n)}`).join(', ');
   const whole = `Whole time: ${milliseconds(timings.time)}.`;
-  $('timing-sum').textContent = `${whole}${longest} Refused: ${refused}. A red limit is exceeded.`;
+  const railcom = ` ${plural(cutouts, 'RailCom cutout')}: the table and the drawings leave out their half-bits.`;
+  const cut = cutouts ? railcom : '';
+  $('timing-sum').textContent = `${whole}${longest}${shortest} Refused: ${refused}.${cut} A red limit is exceeded.`;
   $('timing-lines').value = timingText(timings);
 };

@@ -23,20 +23,20 @@ const startFrom = (halves, from, ones, end) => {
 
 /** Returns the place of the first half-bit of ones in the row of such half-bits directly before a place, but not
  * before a bound. */
-const preambleBefore = (halves, at, least) => {
+const preambleBefore = (halves, at, least, kindOf = classOf) => {
   let from = at;
-  while (from > least && classOf(halves.us[from - 1]) === 'one') from -= 1;
+  while (from > least && kindOf(halves.us[from - 1]) === 'one') from -= 1;
   return from;
 };
 
 /** Returns the parts of a body, from its start bit on: start bits, bytes and the end bit with their places, and its
- * bits. */
-const bodyParts = (halves, start, end) => {
+ * bits. `kindOf` returns the class of a half-bit. */
+const bodyParts = (halves, start, end, kindOf = classOf) => {
   const durations = halves.slice(start, end);
   const parts = [];
   const bits = [];
   for (let half = 0; half + 1 < durations.length; half += 2) {
-    const [first, second] = [classOf(durations[half]), classOf(durations[half + 1])];
+    const [first, second] = [kindOf(durations[half]), kindOf(durations[half + 1])];
     const isBit = first === second && first !== 'bad';
     const [at, bit] = [start + half, first === 'one' ? 1 : 0];
     if (isBit) bits.push({ at, bit });
@@ -101,22 +101,39 @@ const faultOf = (halves, outcome, parts) => {
 /** Adds the half-bits before the start bit: the preamble, and half-bits of no packet. Of many half-bits the first are
  * hidden. */
 const withLead = (halves, strip) => {
-  const { begin, start, end } = strip;
-  const preamble = preambleBefore(halves, start, begin);
+  const { begin, start, end, isLost } = strip;
+  const preamble = preambleBefore(halves, start, begin, isLost ? nearestClassOf : classOf);
   const from = Math.max(begin, start - MOST_LEAD);
   const lead = [];
-  if (from < preamble) lead.push({ kind: 'none', from, to: preamble, label: 'no packet' });
+  const cutout = strip.isAfterPacket && from === begin && isCutout(halves, begin) ? begin : null;
+  const free = cutout === null ? from : begin + 2;
+  if (cutout !== null) lead.push({ kind: 'none', from, to: free, label: 'RailCom cutout' });
+  if (free < preamble) lead.push({ kind: 'none', from: free, to: preamble, label: 'no packet' });
   if (preamble < start) {
     const ones = plural(Math.floor((start - preamble) / 2), 'one');
     // fewer than 20 half-bits are enough if those of the end bit before make up the rest
-    const label = start < end && start - preamble < 20 ? `${ones} + end bit` : `preamble: ${ones}`;
+    const isEnough = start < end && start - preamble < 20 && !isLost;
+    const label = isEnough ? `${ones} + end bit` : `preamble: ${ones}`;
     lead.push({ kind: 'preamble', from: Math.max(from, preamble), to: start, label });
   }
-  return { ...strip, from, hidden: from - begin, ones: start - preamble, parts: [...lead, ...strip.parts] };
+  return { ...strip, from, cutout, hidden: from - begin, ones: start - preamble, parts: [...lead, ...strip.parts] };
 };
 
-/** Returns the half-bits from the end of the outcome before to the end of this one, with their parts. */
+/** Returns the half-bits from the end of the item before to the end of a lost packet, with their parts. A refusal can
+ * end within the lost packet, so the strip begins before its preamble. */
+const lostStripOf = (halves, item, previous) => {
+  const end = item.at;
+  const start = end - 18 * item.bytes.length - 2;
+  const begin = Math.max(0, Math.min(previous ? previous.at : 0, start - 40));
+  const { parts, bits } = bodyParts(halves, start, end, nearestClassOf);
+  labelBytes(parts);
+  parts.filter((it) => it.kind === 'byte')[item.bytes.length - 1].kind = 'error';
+  return withLead(halves, { begin, start, end, parts, bits, fault: causeOf(halves, item, start), isLost: true });
+};
+
+/** Returns the half-bits from the end of the item before to the end of this one, with their parts. */
 const stripOf = (halves, outcome, previous) => {
+  if (outcome.lost) return lostStripOf(halves, outcome, previous);
   const [begin, end] = [previous ? previous.at : 0, outcome.at];
   const bytes = outcome.bytes.length;
   const start = bytes ? end - 18 * bytes - 2 : startFrom(halves, begin, onesLeft(previous), end);
@@ -124,7 +141,8 @@ const stripOf = (halves, outcome, previous) => {
   const fault = outcome.refusal ? faultOf(halves, outcome, parts) : null;
   labelBytes(parts);
   if (bytes) parts.filter((it) => it.kind === 'byte')[bytes - 1].kind = 'error';
-  return withLead(halves, { begin, start, end, parts, bits, fault });
+  const isAfterPacket = Boolean(previous && !previous.refusal);
+  return withLead(halves, { begin, start, end, parts, bits, fault, isAfterPacket });
 };
 
 /** Returns the half-bits after the last outcome, or null. */
@@ -134,7 +152,9 @@ const tailOf = (halves, previous) => {
   const start = startFrom(halves, begin, onesLeft(previous), end);
   const { parts, bits } = bodyParts(halves, start, end);
   labelBytes(parts);
-  return { ...withLead(halves, { begin, start, end, parts, bits, fault: null }), isOpen: start < end };
+  const isAfterPacket = Boolean(previous && !previous.refusal);
+  const strip = withLead(halves, { begin, start, end, parts, bits, fault: null, isAfterPacket });
+  return { ...strip, isOpen: start < end };
 };
 
 // ---- drawing ----
@@ -173,13 +193,15 @@ const topOf = (place) => (place % 2 === 0 ? MIDDLE - PULSE : MIDDLE);
  * each shape. */
 const drawPulses = (strip, durations, x) => {
   const group = node('g', {});
-  const shapes = { one: '', zero: '', bad: '' };
+  const shapes = { one: '', zero: '', bad: '', cutout: '' };
   let wave = '';
   durations.forEach((us, i) => {
     const place = strip.from + i;
     const isUp = place % 2 === 0;
     const top = topOf(place);
-    shapes[classOf(us)] += `M${round(x[i])} ${top}H${round(x[i + 1])}V${top + PULSE}H${round(x[i])}Z`;
+    const isCut = strip.cutout !== null && place >= strip.cutout && place < strip.cutout + 2;
+    const pulse = `M${round(x[i])} ${top}H${round(x[i + 1])}V${top + PULSE}H${round(x[i])}Z`;
+    shapes[isCut ? 'cutout' : classOf(us)] += pulse;
     wave += `${i ? 'V' : `M${round(x[0])} `}${isUp ? top : top + PULSE}H${round(x[i + 1])}`;
     if (us > LONG) {
       const at = round((x[i] + x[i + 1]) / 2);

@@ -37,20 +37,24 @@ const packOutcomes = (outcomes) => {
 
 const unpackOutcomes = (dcc, { at, time, refusal, frame, frames }) => {
   const own = frames.map((it) => dcc.frameOf(it));
-  return Array.from(at, (place, i) => ({ at: place, time: time[i], refusal: refusal[i], bytes: own[frame[i]] }));
+  const outcome = (n, i) => ({ at: n, time: time[i], refusal: refusal[i], bytes: own[frame[i]], heard: i + 1 });
+  return Array.from(at, outcome);
 };
 
 /** The jobs of a worker, by name. A job calls `tell` with its name and the part that is done, from 0 to 1. */
 const JOBS = {
   /** Reads a text or a file, and returns its half-bits, its outcomes, and its text if a field shows it. */
   async read(dcc, { input, key, isShown }, tell) {
-    const bytes = await bytesOf(input, (part) => tell('read from the disk', part));
+    const bytes = await withoutGzip(await bytesOf(input, (part) => tell('read from the disk', part)));
     const text = isShown && bytes.length <= LARGEST_SHOWN ? textOf(bytes) : '';
-    const { halves, ...read } = readBytes(bytes, key, (part) => tell('read', part));
+    const session = bytes[0] === 0x50 && bytes[1] === 0x4b ? await sessionIn(bytes) : null;
+    const tellRead = (part) => tell('read', part);
+    const { halves, ...read } = session ? await readSession(session, key, tellRead) : readBytes(bytes, key, tellRead);
     // the bytes are freed before the outcomes need memory, if the browser can do this
     bytes.buffer.transfer?.(0);
     const outcomes = packOutcomes(dcc.outcomes(halves, (part) => tell('searched for packets', part)));
-    return { ...read, text, count: halves.count, buffer: halves.us.buffer, outcomes };
+    const lost = dcc.lost(halves, (part) => tell('searched for lost packets', part));
+    return { ...read, text, count: halves.count, buffer: halves.us.buffer, outcomes, lost };
   },
 
   /** Returns the first difference of two captures for a decoder. */

@@ -1,5 +1,6 @@
 # SPDX-License-Identifier: MIT OR Apache-2.0
-"""Digital Command Control (DCC) for scripts: packets in half-bits, packet lines, frames, decoders, a command station.
+"""Digital Command Control (DCC) for scripts: packets and lost packets in half-bits, packet lines, frames, decoders, a
+command station.
 
     >>> import dcc
     >>> dcc.frame("loco s3 speed28 f 4").hex()
@@ -18,8 +19,11 @@ import ctypes
 import operator
 import os
 import re
+from array import array
 from collections import namedtuple
+from dataclasses import dataclass
 from itertools import repeat
+from typing import Dict, Iterable, Iterator, List, Optional, Sequence, Tuple, Union
 
 _HERE = os.path.dirname(os.path.abspath(__file__))
 # (a PyDLL keeps the interpreter's lock during a call, so two threads are never in calls on one object)
@@ -28,6 +32,7 @@ _u8, _u16, _u32, _u64 = ctypes.c_uint8, ctypes.c_uint16, ctypes.c_uint32, ctypes
 
 MOST_HALVES = 16_777_216  # in a capture, as the program reads it
 MOST_BYTES = 67_108_864
+_PIECE = 1_000_000  # the bytes of a capture that are read at once
 
 
 class _Frame(ctypes.Structure):
@@ -43,6 +48,24 @@ class _Framer(ctypes.Structure):
 
 class _Outcome(ctypes.Structure):
     _fields_ = [("at", _u32), ("refusal", _u8), ("frame", _Frame)]
+
+
+class _Lost(ctypes.Structure):
+    _fields_ = [("kept", _u64 * 101)]
+
+
+class _ShortPreamble(ctypes.Structure):
+    _fields_ = [
+        ("is_short", ctypes.c_bool), ("ones", _u8), ("after_refusal", ctypes.c_bool), ("since_refusal", _u8),
+    ]
+
+
+class _OffLimits(ctypes.Structure):
+    _fields_ = [("count", _u32), ("least", _u16), ("most", _u16)]
+
+
+class _LostPacket(ctypes.Structure):
+    _fields_ = [("frame", _Frame), ("preamble", _ShortPreamble), ("ones", _OffLimits), ("zeros", _OffLimits)]
 
 
 class _Timing(ctypes.Structure):
@@ -68,7 +91,24 @@ class _Station(ctypes.Structure):
     _fields_ = [("kept", _u8 * 1800)]
 
 
+class _Packet(ctypes.Structure):
+    _fields_ = [
+        ("kind", _u8), ("to", _u8), ("address", _u16), ("forward", ctypes.c_bool), ("bits", _u8), ("group", _u8),
+        ("state", _u8), ("on", ctypes.c_bool), ("cv", _u16), ("value", _u8), ("place", _u8), ("one", ctypes.c_bool),
+        ("output", _u8), ("aspect", _u8),
+    ]
+
+
+class _Service(ctypes.Structure):
+    _fields_ = [("in_service", ctypes.c_bool), ("pending", _Frame), ("cvs", _u8 * 1024)]
+
+
+class _Reader(ctypes.Structure):
+    _fields_ = [("cv", _u16), ("known", _u8), ("value", _u8)]
+
+
 _SIZES = (_Frame, 7), (_Framer, 24), (_Outcome, 12), (_Sender, 16), (_Loco, 1072), (_Board, 12), (_Station, 1800)
+_SIZES += (_Lost, 808), (_LostPacket, 28), (_Packet, 18), (_Service, 1032), (_Reader, 4)
 for _object, _size in _SIZES:
     assert ctypes.sizeof(_object) == _size, f"{_object.__name__} is not as dcc.h has it"
 
@@ -83,6 +123,9 @@ _at = ctypes.POINTER
 _framer_new = _call("dcc_framer_new", _Framer)
 _push_run = _call("dcc_push_run", _u8, _at(_Framer), _u16, _u32, _at(_Outcome))
 _push_many = _call("dcc_push_many", _u8, _at(_Framer), ctypes.c_void_p, _u64, _at(_Outcome), _at(_u64))
+_read = _call("dcc_read", _u8, ctypes.c_char_p, _u64, _at(_Packet))
+_lost_new = _call("dcc_lost_new", None, _at(_Lost))
+_lost_push_run = _call("dcc_lost_push_run", _u32, _at(_Lost), _u16, _u32, _at(_LostPacket))
 _line = _call("dcc_line", _u8, ctypes.c_char_p, _u64, ctypes.c_char_p)
 _frame_of_line = _call("dcc_frame_of_line", _u8, ctypes.c_char_p, _u64, _at(_Frame))
 _sender_start = _call("dcc_sender_start", _u8, _at(_Sender), ctypes.c_char_p, _u64, _at(_Timing))
@@ -93,6 +136,11 @@ _loco_hears = _call("dcc_loco_hears", _u8, _at(_Loco), ctypes.c_char_p, _u64, _a
 _board_new = _call("dcc_board_new", _u8, _at(_Board), _u16)
 _board_apply = _call("dcc_board_apply", _u8, _at(_Board), ctypes.c_char_p, _u64)
 _board_hears = _call("dcc_board_hears", _u8, _at(_Board), ctypes.c_char_p, _u64, _at(ctypes.c_bool))
+_service_new = _call("dcc_service_new", None, _at(_Service), ctypes.c_char_p)
+_service_apply = _call("dcc_service_apply", _u8, _at(_Service), ctypes.c_char_p, _u64, _at(ctypes.c_bool))
+_reader_new = _call("dcc_reader_new", _u8, _at(_Reader), _u16)
+_reader_question = _call("dcc_reader_question", _u8, _at(_Reader), _at(_Frame))
+_reader_answer = _call("dcc_reader_answer", _u8, _at(_Reader), ctypes.c_bool, _at(_u8))
 _station_new = _call("dcc_station_new", _u8, _at(_Station), _u8, _u8, _u8)
 _station_command = _call("dcc_station_command", _u8, _at(_Station), ctypes.c_char_p, _u64)
 _station_next = _call("dcc_station_next", None, _at(_Station), _at(_Frame))
@@ -150,6 +198,13 @@ def _encoded(name, text):
     return text.encode("utf-8", "surrogatepass")
 
 
+def _run(us, count):
+    """Returns the duration and the count of a run as the library takes them. Errors: those of _number."""
+    us = min(_number("a half-bit", us, 0), 65535)
+    count = _number("a count", count, 1, 0xFFFFFFFF)
+    return us, count
+
+
 class Seen(namedtuple("Seen", "at refusal frame")):
     """A packet or a refusal: the number of its last half-bit, from 1; None or H1 to H5; its bytes.
 
@@ -167,30 +222,31 @@ class Framer:
     def __init__(self):
         self._framer, self._taken = _framer_new(), 0
 
-    def push(self, us, count=1):
+    def push(self, us: int, count: int = 1) -> "Optional[Seen]":
         """Takes equal half-bits, of these microseconds. Returns the packet or refusal that one completes, else None.
 
         A half-bit above 65535 counts as 65535. The count is 1 to 4294967295."""
-        us = min(_number("a half-bit", us, 0), 65535)
-        count = _number("a count", count, 1, 0xFFFFFFFF)
+        us, count = _run(us, count)
         outcome, before = _Outcome(), self._taken
         self._taken += count
         if not _push_run(self._framer, us, count, outcome):
             return None
         return _seen_at(before + outcome.at, outcome)
 
-    def push_many(self, halves):
+    def push_many(self, halves: Iterable[int]) -> "List[Seen]":
         """Takes half-bits of these microseconds, in order. Returns a list of their packets and refusals.
 
-        A half-bit above 65535 counts as 65535.
+        A half-bit above 65535 counts as 65535. An array with the type code 'H', as `capture` returns, is taken without
+        a copy.
 
         Errors: TypeError or ValueError if an item is no half-bit. The framer then takes no item."""
-        numbers = [min(_number("a half-bit", it, 0), 65535) for it in halves]
-        array, found, at = (_u16 * len(numbers))(*numbers), [], 0
+        if not (isinstance(halves, array) and halves.typecode == "H"):
+            halves = array("H", [min(_number("a half-bit", it, 0), 65535) for it in halves])
+        found, at, count = [], 0, len(halves)
+        place = halves.buffer_info()[0]
         outcome, taken = _Outcome(), _u64()
-        while at < len(numbers):
-            place = ctypes.addressof(array) + 2 * at
-            is_end = _push_many(self._framer, place, len(numbers) - at, outcome, taken)
+        while at < count:
+            is_end = _push_many(self._framer, place + 2 * at, count - at, outcome, taken)
             at += taken.value
             if is_end:
                 found.append(_seen_at(self._taken + at, outcome))
@@ -203,17 +259,94 @@ def _seen_at(at, outcome):
     return Seen(at, refusal, bytes(outcome.frame))
 
 
-def seen(halves):
+def seen(halves: Iterable[int]) -> "Iterator[Seen]":
     """Returns the packets and refusals in half-bits, which are numbers of microseconds, in order."""
     framer = Framer()
+    if isinstance(halves, array) and halves.typecode == "H":
+        return iter(framer.push_many(halves))
     return filter(None, map(framer.push, halves))
+
+
+class ShortPreamble(namedtuple("ShortPreamble", "ones after")):
+    """A preamble that is too short: its number of half-bits of ones, and None or the number of the last half-bit of
+    the refusal that uses the half-bit before them."""
+
+    def __str__(self):
+        return f"preamble {self.ones}" + ("" if self.after is None else f" after {self.after}")
+
+
+class OffLimits(namedtuple("OffLimits", "count least most")):
+    """Half-bits outside the limits of a decoder: their number, and their least and greatest duration."""
+
+    def __str__(self):
+        return f"{self.count} from {self.least} to {self.most}"
+
+
+class LostPacket(namedtuple("LostPacket", "at frame preamble ones zeros")):
+    """A packet that a decoder does not hear: the number of its last half-bit, from 1; its bytes; its causes.
+
+    The causes are a ShortPreamble, and OffLimits of the half-bits of ones and of zeros. A cause that the packet does
+    not have is None. Each lost packet has a cause."""
+
+    def __str__(self):
+        """Returns the line that `dcc lost --words` writes."""
+        named = (self.preamble, ""), (self.ones, "ones "), (self.zeros, "zeros ")
+        causes = ", ".join(f"{name}{cause}" for cause, name in named if cause is not None)
+        return f"{self.at} lost {line(self.frame)}: {causes}"
+
+
+class Lost:
+    """Finds packets that a decoder does not hear, with their causes (NMRA S-9.1, S-9.2).
+
+    >>> finder = Lost()
+    >>> capture = "58*16 100*14 58*4 100*4 58*4 100*6 58*2 100*6 58*4 100*8 58*4"
+    >>> [str(it) for us in durations(capture) for it in finder.push(us)]
+    ['72 lost loco s3 speed28 f 4: preamble 16']
+    """
+
+    def __init__(self):
+        self._lost, self._taken = _Lost(), 0
+        _lost_new(self._lost)
+
+    def push(self, us, count=1):
+        """Takes equal half-bits, of these microseconds. Returns a list of the packets that are lost in them.
+
+        A half-bit above 65535 counts as 65535. The count is 1 to 4294967295."""
+        us, left = _run(us, count)
+        packet, found = _LostPacket(), []
+        while left:
+            taken = _lost_push_run(self._lost, us, left, packet)
+            self._taken += taken or left
+            if not taken:
+                break
+            found.append(_lost_at(self._taken, packet))
+            left -= taken
+        return found
+
+
+def _lost_at(at, packet):
+    preamble, causes = None, [_off_limits(packet.ones), _off_limits(packet.zeros)]
+    if packet.preamble.is_short:
+        after = at - packet.preamble.since_refusal if packet.preamble.after_refusal else None
+        preamble = ShortPreamble(packet.preamble.ones, after)
+    return LostPacket(at, bytes(packet.frame), preamble, *causes)
+
+
+def _off_limits(off):
+    return OffLimits(off.count, off.least, off.most) if off.count else None
+
+
+def lost(halves):
+    """Returns the packets that a decoder does not hear in half-bits, which are numbers of microseconds, in order."""
+    finder = Lost()
+    return (it for us in halves for it in finder.push(us))
 
 
 # a run, a comment, a line feed, or a word that is no run
 _WORDS = re.compile(rb"([0-9]{1,10})(?:\*([0-9]{1,8}))?(?![^ \t\r\n#])|#[^\n]*|\n|[^ \t\r\n#]+")
 
 
-def durations(capture):
+def durations(capture: Union[str, bytes]) -> Iterator[int]:
     """Yields the half-bits of a capture, which is a text or bytes (docs/FORMATS.md).
 
     A capture has words of microseconds, runs as 58*28, and comments from # on.
@@ -224,8 +357,8 @@ def durations(capture):
     return _durations(_encoded("a capture", capture) if isinstance(capture, str) else _bytes("a capture", capture))
 
 
-def _durations(text):
-    line, left, is_cut = 1, MOST_HALVES, len(text) > MOST_BYTES
+def _durations(text, line=1, left=None):
+    left, is_cut = MOST_HALVES if left is None else left, len(text) > MOST_BYTES
     last = MOST_BYTES - 1 if is_cut else len(text)  # (a word that ends behind it is cut by the limit)
     for found in _WORDS.finditer(text, 0, MOST_BYTES):
         us, count = found.groups()
@@ -253,21 +386,144 @@ def _durations(text):
         raise Refused("U7 input too long")
 
 
-def line(frame):
+class _Known(dict):
+    """The durations of words, each of which is computed once. A word that is no duration raises KeyError."""
+
+    def __missing__(self, word):
+        if len(word) > 10 or not word.isdigit():
+            raise KeyError(word)
+        us = min(int(word), 65535)
+        if len(self) < 100_000:
+            self[word] = us
+        return us
+
+
+_COMMENT, _BLANK = re.compile(rb"#[^\n]*"), re.compile(rb"[ \t\r\n]")
+
+
+def _add_words(halves, words, known):
+    """Appends the half-bits of words. Returns False, and appends nothing, if a word is no run."""
+    before = len(halves)
+    try:
+        halves.extend(map(known.__getitem__, words))
+        return True
+    except KeyError:
+        del halves[before:]
+    try:
+        for word in words:
+            us, star, count = word.partition(b"*")
+            count = int(count) if star and len(count) <= 8 and count.isdigit() else 0 if star else 1
+            if not 1 <= count <= MOST_HALVES + before - len(halves):
+                raise KeyError(word)
+            halves.extend(repeat(known[us], count))
+        return True
+    except KeyError:
+        del halves[before:]
+    return False
+
+
+def capture(text: Union[str, bytes]) -> "array[int]":
+    """Returns all half-bits of a capture as an array with the type code 'H' (docs/FORMATS.md).
+
+    Errors: those of `durations`. If there is an error, the call returns no half-bits."""
+    text = _encoded("a capture", text) if isinstance(text, str) else _bytes("a capture", text)
+    if len(text) > MOST_BYTES:
+        return array("H", _durations(text))
+    halves, known, at, line = array("H"), _Known(), 0, 1
+    while at < len(text):
+        # a piece ends after a blank, or at the end of its last comment
+        found = _BLANK.search(text, at + _PIECE)
+        end = found.end() if found else len(text)
+        if text.rfind(b"#", at, end) > text.rfind(b"\n", at, end):
+            end = text.find(b"\n", end - 1) + 1 or len(text)
+        piece = _COMMENT.sub(b"", text[at:end])
+        is_plain = not piece.translate(None, b"0123456789* \t\r\n")
+        if not is_plain or not _add_words(halves, piece.split(), known) or len(halves) > MOST_HALVES:
+            # (a word is no run, or there are too many half-bits)
+            halves.extend(_durations(text[at:end], line, MOST_HALVES - len(halves)))
+        line += piece.count(b"\n")
+        at = end
+    return halves
+
+
+Bytes = Union[bytes, bytearray, Sequence[int]]
+Cvs = Union[Bytes, Dict[int, int]]
+
+_KINDS = (
+    "idle", "reset", "speed28", "speed128", "functions", "state", "cv write", "cv verify", "cv bitwrite",
+    "cv bitverify", "accessory", "signal", "other",
+)  # fmt: skip
+
+
+@dataclass(frozen=True)
+class Packet:
+    """The fields of a packet (docs/FORMATS.md). A field that the kind of the packet does not use is None.
+
+    An address is 'all', 's3' or 'l1000'. The bits of functions have the lowest function in the lowest bit."""
+
+    kind: str
+    address: Optional[str] = None
+    forward: Optional[bool] = None
+    bits: Optional[int] = None
+    group: Optional[int] = None
+    state: Optional[int] = None
+    on: Optional[bool] = None
+    cv: Optional[int] = None
+    value: Optional[int] = None
+    place: Optional[int] = None
+    one: Optional[bool] = None
+    board: Optional[int] = None
+    output: Optional[int] = None
+    signal: Optional[int] = None
+    aspect: Optional[int] = None
+
+
+# the fields of each kind of packet
+_FIELDS = {
+    "speed28": "address forward bits", "speed128": "address forward bits", "functions": "address bits group",
+    "reset": "address", "state": "address state on", "cv write": "address cv value", "cv verify": "address cv value",
+    "cv bitwrite": "address cv place one", "cv bitverify": "address cv place one", "accessory": "board output on",
+    "signal": "signal aspect",
+}  # fmt: skip
+
+
+def read(frame: Bytes) -> Packet:
+    """Returns the fields of the packet of a frame.
+
+    >>> read(bytes.fromhex("036261"))
+    Packet(kind='speed28', address='s3', forward=True, bits=4, group=None, state=None, on=None, cv=None, value=None, \
+place=None, one=None, board=None, output=None, signal=None, aspect=None)
+
+    Errors: L1 if the frame has not 3 to 6 bytes, L2 if its error byte is wrong."""
+    found, frame = _Packet(), _frame_bytes(frame)
+    _check(_read(frame, len(frame), found), "L")
+    kind = _KINDS[found.kind]
+    of = {
+        "address": f"{' sl'[found.to]}{found.address}" if found.to else "all",
+        "board": found.address,
+        "signal": found.address,
+    }
+    names = _FIELDS.get(kind, "").split()
+    return Packet(kind, **{it: of[it] if it in of else getattr(found, it) for it in names})
+
+
+def line(frame: Bytes) -> str:
     """Returns the packet line of the bytes of a frame: 'loco s3 speed28 f 4'."""
     room, frame = ctypes.create_string_buffer(41), _frame_bytes(frame)
     _check(_line(frame, len(frame), room), "L")
     return room.value.decode()
 
 
-def frame(text):
+def frame(text: str) -> bytes:
     """Returns the bytes of the frame of a packet line, the error byte last."""
     found, words = _Frame(), _encoded("a packet line", text)
     _check(_frame_of_line(words, len(words), found), "P")
     return bytes(found)
 
 
-def halves(frame, one=58, zero_first=100, zero_second=100, preamble=14):
+def halves(
+    frame: Bytes, one: int = 58, zero_first: int = 100, zero_second: int = 100, preamble: int = 14
+) -> List[int]:
     """Returns the half-bits of the bytes of a frame in this timing, in microseconds, as a list."""
     lengths = (_number("a half-bit", it, 0, 65535) for it in (one, zero_first, zero_second))
     timing = _Timing(*lengths, _number("a preamble", preamble, 0, 255))
@@ -277,66 +533,71 @@ def halves(frame, one=58, zero_first=100, zero_second=100, preamble=14):
     return list(iter(lambda: _sender_half(sender), 0))
 
 
+def _cv_bytes(cvs):
+    """Returns 1024 CVs as bytes."""
+    if isinstance(cvs, dict):
+        values = [0] * 1024
+        for number, value in cvs.items():
+            values[_number("the number of a CV", number, 1, 1024) - 1] = _number(f"CV{number}", value, 0, 255)
+        cvs = values
+    cvs = _bytes("the list of CVs", cvs)
+    if len(cvs) != 1024:
+        raise ValueError(f"a decoder has 1024 CVs, not {len(cvs)}")
+    return cvs
+
+
 class Loco:
     """A locomotive decoder that is powered up with these CVs: 1024 bytes, or a dict of their numbers and values."""
 
-    def __init__(self, cvs):
-        if isinstance(cvs, dict):
-            values = [0] * 1024
-            for number, value in cvs.items():
-                values[_number("the number of a CV", number, 1, 1024) - 1] = _number(f"CV{number}", value, 0, 255)
-            cvs = values
-        cvs = _bytes("the list of CVs", cvs)
-        if len(cvs) != 1024:
-            raise ValueError(f"a decoder has 1024 CVs, not {len(cvs)}")
+    def __init__(self, cvs: Cvs):
         self._loco = _Loco()
-        _loco_new(self._loco, cvs)
+        _loco_new(self._loco, _cv_bytes(cvs))
 
-    def apply(self, frame):
+    def apply(self, frame: Bytes) -> None:
         """Applies the packet of these bytes. A packet for other decoders changes nothing."""
         frame = _frame_bytes(frame)
         _check_heard(_loco_apply(self._loco, frame, len(frame)))
 
-    def hears(self, frame):
+    def hears(self, frame: Bytes) -> bool:
         """Returns True if the packet of these bytes is for this decoder."""
         heard, frame = ctypes.c_bool(), _frame_bytes(frame)
         _check_heard(_loco_hears(self._loco, frame, len(frame), heard))
         return heard.value
 
     @property
-    def address(self):
+    def address(self) -> Optional[str]:
         """Returns its active address: 's3', 'l1000', or None."""
         kind = self._loco.address_kind
         return f"{' sl'[kind]}{self._loco.address}" if kind else None
 
     @property
-    def speed(self):
+    def speed(self) -> Union[str, Tuple[int, int]]:
         """Returns 'stop', 'emergency', or (step, number of steps: 14, 28 or 126)."""
         mode = self._loco.speed_mode
         return ("stop", "emergency")[mode] if mode < 2 else (self._loco.step, mode)
 
     @property
-    def is_forward(self):
+    def is_forward(self) -> bool:
         """Returns True if its direction is forward."""
         return self._loco.forward
 
     @property
-    def functions(self):
+    def functions(self) -> List[int]:
         """Returns the numbers of the functions that are on."""
         return [n for n in range(69) if self._loco.functions[n // 64] >> n % 64 & 1]
 
     @property
-    def states(self):
+    def states(self) -> List[int]:
         """Returns the numbers of the binary states that are on."""
         return [n for n in range(128) if self._loco.states[n // 64] >> n % 64 & 1]
 
     @property
-    def pending(self):
+    def pending(self) -> Optional[bytes]:
         """Returns the frame of the CV write that takes effect if it is heard again, or None."""
         return bytes(self._loco.pending) or None
 
     @property
-    def cvs(self):
+    def cvs(self) -> bytes:
         """Returns its CVs, CV1 first."""
         return bytes(self._loco.cvs)
 
@@ -352,38 +613,38 @@ class Loco:
 class Board:
     """An accessory decoder with all off, of a board of 0 to 510."""
 
-    def __init__(self, number):
+    def __init__(self, number: int):
         self._board = _Board()
         _check(_board_new(self._board, _number("a board", number, 0, 65535)), "P")
 
-    def apply(self, frame):
+    def apply(self, frame: Bytes) -> None:
         """Applies the packet of these bytes. A packet for other decoders changes nothing."""
         frame = _frame_bytes(frame)
         _check_heard(_board_apply(self._board, frame, len(frame)))
 
-    def hears(self, frame):
+    def hears(self, frame: Bytes) -> bool:
         """Returns True if the packet of these bytes is for this decoder."""
         heard, frame = ctypes.c_bool(), _frame_bytes(frame)
         _check_heard(_board_hears(self._board, frame, len(frame), heard))
         return heard.value
 
     @property
-    def number(self):
+    def number(self) -> int:
         """Returns its number, 0 to 510."""
         return self._board.number
 
     @property
-    def outputs(self):
+    def outputs(self) -> List[int]:
         """Returns the numbers of the outputs that are on."""
         return [n for n in range(8) if self._board.outs >> n & 1]
 
     @property
-    def positions(self):
+    def positions(self) -> List[int]:
         """Returns the sides of its pairs of outputs, 0 or 1."""
         return [int(it) for it in self._board.positions]
 
     @property
-    def aspects(self):
+    def aspects(self) -> List[int]:
         """Returns the aspects of its signals."""
         return list(self._board.aspects)
 
@@ -393,15 +654,72 @@ class Board:
         return "\n".join([f"board {self.number}", *(" ".join(map(str, [head, *words])) for head, words in lines)])
 
 
+class Service:
+    """A decoder on the programming track (NMRA S-9.2.3) with these CVs: 1024 bytes, or a dict of numbers and values."""
+
+    def __init__(self, cvs: Cvs):
+        self._service = _Service()
+        _service_new(self._service, _cv_bytes(cvs))
+
+    def apply(self, frame: Bytes) -> bool:
+        """Applies a frame. Returns True if the decoder acknowledges the frame."""
+        acknowledged, frame = ctypes.c_bool(), _frame_bytes(frame)
+        _check_heard(_service_apply(self._service, frame, len(frame), acknowledged))
+        return acknowledged.value
+
+    @property
+    def is_in_service(self) -> bool:
+        """Returns True if the decoder is in service mode."""
+        return self._service.in_service
+
+    @property
+    def cvs(self) -> bytes:
+        """Returns its CVs, CV1 first."""
+        return bytes(self._service.cvs)
+
+
+class Reader:
+    """The reading of a CV on a programming track by nine questions (NMRA S-9.2.3).
+
+    >>> reader = Reader(8)
+    >>> reader.question().hex()
+    '7807e897'"""
+
+    def __init__(self, cv: int):
+        self._reader = _Reader()
+        _check(_reader_new(self._reader, _number("a CV", cv, 0, 65535)), "P")
+
+    def question(self) -> bytes:
+        """Returns the frame of the next question. A station sends three resets, and then this frame five times."""
+        found = _Frame()
+        _check(_reader_question(self._reader, found), "P")
+        return bytes(found)
+
+    def answer(self, yes: bool) -> Optional[int]:
+        """Takes the answer to the question: True if the decoder acknowledged it.
+
+        Returns None if there is a further question, and the value of the CV after the ninth question.
+
+        Errors: S1 if the decoder did not acknowledge the ninth question."""
+        if not isinstance(yes, bool):
+            raise TypeError(f"an answer is True or False, not {type(yes).__name__}")
+        value = _u8()
+        state = _reader_answer(self._reader, yes, value)
+        if state == 2:
+            raise Refused("S1")
+        _check(state if state > 2 else 0, "P")
+        return value.value if state == 1 else None
+
+
 class Station:
     """A command station with at most 64 waiting commands, at most 128 entries that it refreshes, and 1 to 8 copies of
     each command."""
 
-    def __init__(self, queue=64, slots=128, repeats=2):
+    def __init__(self, queue: int = 64, slots: int = 128, repeats: int = 2):
         self._station = _Station()
         _check(_station_new(self._station, *(_number("a size", it, 0, 255) for it in (queue, slots, repeats))), "C")
 
-    def command(self, frame):
+    def command(self, frame: Bytes) -> None:
         """Adds the command of these bytes to the queue.
 
         Errors: Refused, C3 if a station does not send such commands, C4 if the queue is full."""
@@ -409,18 +727,18 @@ class Station:
         answer = _station_command(self._station, frame, len(frame))
         _check(answer, "L" if answer < 3 else "C")
 
-    def next(self):
+    def next(self) -> bytes:
         """Returns the bytes of the next frame to send."""
         found = _Frame()
         _station_next(self._station, found)
         return bytes(found)
 
     @property
-    def waiting(self):
+    def waiting(self) -> int:
         """Returns the number of waiting commands."""
         return _station_waiting(self._station)
 
     @property
-    def entries(self):
+    def entries(self) -> int:
         """Returns the number of entries."""
         return _station_entries(self._station)

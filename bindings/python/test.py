@@ -7,6 +7,7 @@ with spoilt half-bits.
 """
 import array
 import collections
+import io
 import itertools
 import os
 import random
@@ -17,6 +18,7 @@ import sys
 import tempfile
 import unittest
 import unittest.mock
+import zipfile
 
 HERE = os.path.dirname(os.path.abspath(__file__))
 TOP = os.path.join(HERE, "..", "..")
@@ -26,6 +28,7 @@ if not PROGRAM:
     sys.exit("test.py: no program dcc: name one in DCC_PROGRAM")
 
 import dcc
+import dcc_analyser
 
 IDLE = b"\xff\0\xff"
 SPEED = bytes([0x03, 0x62, 0x61])  # loco s3 speed28 f 4
@@ -87,6 +90,122 @@ def is_for(decoder, line):
     return first == 0 or decoder.address in (
         (f"s{first}",) if first < 128 else (f"l{(first - 192) * 256 + second}",) if 192 <= first < 232 else ()
     )
+
+
+def to_capture(data, *words):
+    """The half-bits and the sentence of tools/to-capture."""
+    out, error, _ = told([os.path.join(TOP, "tools", "to-capture"), *words], data)
+    return [int(it) for it in out.split()], error.decode("latin-1").strip().removeprefix("to-capture: ")
+
+
+def recorded(data, channel=None):
+    """The half-bits and the sentence of the module."""
+    try:
+        return list(dcc_analyser.read(data, channel).halves), ""
+    except dcc_analyser.Unreadable as fault:
+        return list(fault.halves), str(fault)
+
+
+def bytes_of(path):
+    with open(path, "rb") as file:
+        return file.read()
+
+
+class Analysers(unittest.TestCase):
+    """Files of logic analysers, beside tools/to-capture."""
+
+    def assertAlike(self, data, channel=None):
+        halves, sentence = to_capture(data, *([] if channel is None else ["-c", channel]))
+        found, said = recorded(data, channel)
+        self.assertEqual(said.replace(": choose another", ", and -c takes another"), sentence)
+        self.assertEqual(found, halves)
+
+    @unittest.skipUnless(os.path.isfile(os.path.join(TOP, "tools", "analyser-forms")), "the forms need the repository")
+    def test_forms_of_files_are_read_as_to_capture_reads_them(self):
+        with tempfile.TemporaryDirectory() as room:
+            subprocess.run([os.path.join(TOP, "tools", "analyser-forms"), room], check=True)
+            rows = sorted(it[:-5] for it in os.listdir(room) if it.endswith(".file"))
+            self.assertGreater(len(rows), 60)
+            for row in rows:
+                name, file, channel = (bytes_of(os.path.join(room, row + it)) for it in (".name", ".file", ".channel"))
+                # (the script refuses a session of sigrok, which the module reads)
+                if not file.startswith(b"PK"):
+                    with self.subTest(name.decode()):
+                        self.assertAlike(file, channel.decode().rstrip("\n") or None)
+
+    def test_examples_and_odd_files(self):
+        for name in "analyser.vcd", "analyser.csv":
+            path = os.path.join(TOP, "examples", name)
+            halves = dcc_analyser.read(path).halves
+            lines = "".join(f"{it}\n" for it in dcc.seen(halves))
+            with open(os.path.join(TOP, "examples", "analyser.words"), encoding="ascii") as words:
+                self.assertEqual(lines, words.read())
+        head = "$timescale 1 us $end $var wire 1 ! a $end $var wire 1 % b2 $end $enddefinitions $end\n"
+        rows = "#0 0! 1%\n#58 1!\n#116 0! 0%\n#174 1!\n"
+        for text in (
+            "", "\n \n", "58 58", "libsigrok 0.5.2\n", head, head + rows, rows, head.replace("us", "qs") + rows,
+            head + "#0 0!\n#5x 1!\n", head + "#5 0!\n#4 1!\n", "$enddefinitions $end #0",
+            head + "#0 b0 !\n#9 b1 !\n#20 b0 !", "Time [s],a\n0,0\n1,1\n1.07,0\n1.070058,1\n",
+            "Time [s],a\n0,0,0\n", "Time [s],a\n0,0.5\n", "Time [s],a,b\n0,0,1\n",
+            'Time [s],"a\n0,0\n', "\xef\xbb\xbfTime [s],a\n0,0\n", "META x\n" + head + rows, "PKxx",
+            "Time,a\n0,0\n1,1\n", "Time [us],a\n0,0\n10,1\n68.6,0\n127.1,1\n185.5,0\n",
+            "; Channels (2/8): D0, D1\n; Samplerate: 1 MHz\nlogic,logic\n" + "0,0\n1,0\n" * 3, "\xff\xfeT\0",
+        ):  # fmt: skip
+            data = text.encode("latin-1")
+            if data.startswith(b"PK"):
+                self.assertIn("no session of sigrok", recorded(data)[1])
+            else:
+                with self.subTest(text):
+                    self.assertAlike(data)
+        for channel in "a", "%", "b2", "2", "x", "!", "b":
+            self.assertAlike((head + rows).encode(), channel)
+        self.assertEqual(dcc_analyser.read(self.track(), "b").channel, "b")
+        self.assertRaises(TypeError, dcc_analyser.read, 5)
+        self.assertRaises(TypeError, dcc_analyser.read, b"", 5)
+        self.assertRaises(OSError, dcc_analyser.read, os.path.join(TOP, "lacking"))
+
+    @staticmethod
+    def track(channel=2):
+        """A digital CSV in which the second channel has a packet."""
+        at, rows = 0, []
+        for n, us in enumerate(dcc.halves(SPEED) + [58]):
+            rows.append(f"{at / 1e6:.6f}," + ",".join(str(n % 2) if it == channel else "0" for it in (1, 2)))
+            at += us
+        return ("Time [s],a,b\n" + "\n".join(rows) + "\n").encode()
+
+    def test_sessions_of_sigrok(self):
+        def session(rate="2 MHz", size=1, pieces=3, probes={1: "D0", 3: "track \u00b5"}, bit=2, **other):
+            levels = []
+            for n, us in enumerate([100, *dcc.halves(SPEED), 58]):
+                levels += [n % 2] * (2 * us)
+            sample = lambda it: bytes([(it << bit % 8) | 1 if place == bit // 8 else 0 for place in range(size)])
+            samples = b"".join(map(sample, levels))
+            lines = ["[global]", "sigrok version=0.5", "[device 1]", "capturefile=logic-1", f"samplerate={rate}"]
+            lines += [f"unitsize={size}", *(f"probe{n}={name}" for n, name in probes.items())]
+            file = io.BytesIO()
+            with zipfile.ZipFile(file, "w") as archive:
+                archive.writestr("version", "2")
+                archive.writestr("metadata", "\n".join(other.get("lines", lines)))
+                step = -(-len(levels) // pieces) * size
+                for n in range(pieces):
+                    archive.writestr(f"logic-1-{n + 1}", samples[n * step : (n + 1) * step])
+            return file.getvalue()
+
+        wanted = ["84 loco s3 speed28 f 4"]
+        for words in {}, {"pieces": 1}, {"pieces": 12}, {"size": 2, "bit": 9, "probes": {1: "x", 10: "track \u00b5"}}:
+            found = dcc_analyser.read(session(**words), "track \u00b5")
+            self.assertEqual([str(it) for it in dcc.seen(found.halves)], wanted, words)
+            self.assertEqual((found.channel, len(found.channels)), ("track \u00b5", 2))
+        halves, sentence = recorded(session(rate="1 MHz"), "track \u00b5")
+        self.assertEqual((halves[:2], "has no packet: 85 halves, of 116 to 200" in sentence), ([116, 116], True))
+        for words, sentence in (
+            ({"lines": []}, "no session of sigrok"),
+            ({"rate": "0 Hz"}, "no rate"),
+            ({"probes": {}}, "no channel"),
+            ({"probes": {9: "track \u00b5"}}, "fewer bits"),
+        ):
+            self.assertIn(sentence, recorded(session(**words), "track \u00b5")[1])
+        self.assertIn("has no two edges; the channels are D0", recorded(session())[1])
 
 
 class ByHand(unittest.TestCase):
@@ -314,6 +433,111 @@ class ByHand(unittest.TestCase):
             said = told([PROGRAM, "show"], text)
             self.assertEqual((count, f"dcc: {fault}\n" if fault else ""), (wanted, said[1].decode()), text[-20:])
 
+    def test_fields_of_packets_are_those_of_their_lines(self):
+        on = {True: "on", False: "off"}
+        rest = {
+            "reset": lambda it: "",
+            "speed28": lambda it: f" {'fr'[not it.forward]} {it.bits}",
+            "speed128": lambda it: f" {'fr'[not it.forward]} {it.bits}",
+            "functions": lambda it: f" {it.group} {it.bits}",
+            "state": lambda it: f" {it.state} {on[it.on]}",
+            "cv write": lambda it: f" {it.cv} {it.value}",
+            "cv verify": lambda it: f" {it.cv} {it.value}",
+            "cv bitwrite": lambda it: f" {it.cv} {it.place} {int(it.one)}",
+            "cv bitverify": lambda it: f" {it.cv} {it.place} {int(it.one)}",
+        }
+        more = "loco l1000 cv bitverify 1024 7 1|loco s3 cv bitwrite 513 0 0|loco all cv verify 2 255|signal 2047 31"
+        more += "|accessory 511 7 off|loco s3 state 127 on|loco s3 functions 9 15|loco l10239 speed128 r 127|idle"
+        kinds = set()
+        for line in [*rows(), *more.split("|"), "loco all reset"]:
+            packet = dcc.read(dcc.frame(line))
+            kinds.add(packet.kind)
+            if packet.kind == "accessory":
+                text = f"accessory {packet.board} {packet.output} {on[packet.on]}"
+            elif packet.kind == "signal":
+                text = f"signal {packet.signal} {packet.aspect}"
+            elif packet.kind in rest:
+                text = f"loco {packet.address} {packet.kind}{rest[packet.kind](packet)}"
+            else:
+                text = packet.kind
+            said = dcc.line(dcc.frame(line))
+            self.assertEqual(text, "other" if said.startswith("frame") else said)
+        self.assertEqual(len(kinds), 13)
+        self.assertEqual(dcc.read(dcc.frame("frame 7c000a76")), dcc.Packet("other"))
+        speed = dcc.Packet("speed28", address="s3", forward=True, bits=4)
+        self.assertEqual((dcc.read(SPEED), dcc.read(SPEED).cv), (speed, None))
+        self.assertRefused("L1", dcc.read, b"\1\1")
+        self.assertRefused("L2", dcc.read, b"\1\2\4")
+
+    def test_a_cv_is_read_as_readcv_reads_it(self):
+        for cv, value in (1, 10), (29, 2), (8, 200), (1024, 255), (17, 0):
+            service, reader, lines, result = dcc.Service({cv: value}), dcc.Reader(cv), [], None
+            self.assertFalse(service.is_in_service)
+            while result is None:
+                question = reader.question()
+                yes = any([service.apply(it) for it in [bytes(3)] * 3 + [question] * 5])
+                self.assertTrue(service.is_in_service)
+                lines.append(f"{question.hex()} {'yes' if yes else 'no'}")
+                result = reader.answer(yes)
+            text = "dcc-decoders 2\nloco none\nspeed stop f\non\nstates\npending none\n"
+            text += (f"cv {cv} {value}\n" if value else "") + "end\n"
+            said = program("readcv", "--cv", str(cv), text=text)
+            self.assertEqual("\n".join([*lines, f"value {result}", ""]), said)
+            self.assertEqual((result, service.cvs[cv - 1], len(service.cvs)), (value, value, 1024))
+        service, write = dcc.Service({3: 5}), bytes([0x7C, 2, 9, 0x7C ^ 2 ^ 9])
+        self.assertEqual([service.apply(it) for it in (bytes(3), write, write)], [False, False, True])
+        self.assertEqual(service.cvs[2], 9)
+        empty = dcc.Reader(8)
+        self.assertEqual([empty.answer(False) for _ in range(8)], [None] * 8)
+        self.assertRefused("S1", empty.answer, False)
+        for cv in 0, 1025, 65535:
+            self.assertRefused("P6", dcc.Reader, cv)
+        self.assertRefused("L2", service.apply, b"\1\2\4")
+        service._service.pending.len = 2
+        self.assertRefused("P13", service.apply, bytes(3))
+        empty._reader.cv = 0
+        self.assertRefused("P13", empty.question)
+        self.assertRefused("P13", empty.answer, True)
+        self.assertRaises(TypeError, empty.answer, 1)
+        self.assertRaises(TypeError, dcc.Service, None)
+        self.assertRaises(ValueError, dcc.Reader, -1)
+
+    def test_whole_captures_are_read_as_half_bits_one_by_one(self):
+        good = "58*28 100*14 58*4 100*4 58*4 100*6 58*2 100*6 58*4 100*8 58*4"
+        faults = "58*0|58*-3|58*|58x|*5|+58|58*16777217|58*000000001|58*5*2|12345678901|00000000058|---|5,8|58\x0c58|\0"
+        texts = [f"{good}\n# a comment 5x\r\n\t58\n58 {it} 58\n58*0\n" for it in faults.split("|")]
+        texts += ["", "#", "\n\n", "58", "58#58x", f"{good}#58", "0000000058*00000028 0*1 70000 9999999999*3"]
+        line = good.replace("58*28", "58 " * 28)
+        texts += [f"{line} # {line}\n" * 6 + last for last in ("58", "58x", "\n\n58 # x", "#")]
+        texts += ["58 " * 340 + last for last in ("58x", "57", "5 # 8\n57 58*2")] + ["#" * 1500 + "\n58 58x"]
+        texts += ["1" * 1200, "58 " * 333 + "58" * 4 + "*3 58", "65535 65536 " * 120]
+        for text, piece in itertools.product(texts, (1, 7, 100, 1_000_000)):
+            wanted = list_of(dcc.durations, text)
+            with unittest.mock.patch.object(dcc, "_PIECE", piece):
+                try:
+                    found, said = dcc.capture(text), ""
+                except dcc.Refused as refused:
+                    found, said = None, str(refused)
+            self.assertEqual(said, wanted[1], (piece, text[-20:]))
+            if found is not None:
+                self.assertEqual((found.typecode, list(found)), ("H", list(dcc.durations(text))), text[-20:])
+        self.assertEqual(len(dcc.capture("58*16777216")), dcc.MOST_HALVES)
+        for text in "58*16777216 58", "58*16777215 58*2", "58 " * 8 + "58*16777209":
+            self.assertRefused("U7 input too long", dcc.capture, text)
+        self.assertRefused("U2 line 1: bad number", dcc.capture, "58*16777216 58x")
+        with unittest.mock.patch.object(dcc, "MOST_HALVES", 10):
+            self.assertEqual(len(dcc.capture("58 " * 10)), 10)
+            self.assertRefused("U7 input too long", dcc.capture, "58 " * 11)
+        self.assertEqual(dcc.capture(b"58 57*2"), array.array("H", [58, 57, 57]))
+        halves = dcc.capture(f"{good} " * 3)
+        self.assertEqual(list(dcc.seen(halves)), list(dcc.seen(list(halves))))
+        framer = dcc.Framer()
+        self.assertEqual(framer.push_many(halves[:100]) + framer.push_many(halves[100:]), list(dcc.seen(halves)))
+        full = b"#" * (dcc.MOST_BYTES - 9) + b"\n"
+        self.assertRefused("U7 input too long", dcc.capture, full + b"58 58 58 ")
+        self.assertEqual(len(dcc.capture(full + b"58 58 58")), 3)
+        self.assertRaises(TypeError, dcc.capture, 58)
+
     def test_what_is_refused(self):
         for name, call, argument in (
             ("P1", dcc.frame, "loco s128 reset"),
@@ -386,6 +610,8 @@ class ByHand(unittest.TestCase):
             lambda: dcc.Framer().push(None),
             lambda: dcc.Framer().push(58.0),
             lambda: dcc.Framer().push(58, 2.0),
+            lambda: dcc.Lost().push("58"),
+            lambda: dcc.Lost().push(58, 2.0),
             lambda: dcc.line("036261"),
             lambda: dcc.line(3),
             lambda: dcc.line(None),
@@ -422,6 +648,9 @@ class ByHand(unittest.TestCase):
             lambda: dcc.Framer().push(-1),
             lambda: dcc.Framer().push(58, 0),
             lambda: dcc.Framer().push(58, 2**32),
+            lambda: dcc.Lost().push(-1),
+            lambda: dcc.Lost().push(58, 0),
+            lambda: dcc.Lost().push(58, 2**32),
             lambda: dcc.line([300, 98, 97]),
             lambda: dcc.line(array.array("H", [0x6203, 0x61, 0])),
             lambda: dcc.line([-1, 0, 0]),
@@ -567,6 +796,38 @@ class RandomPackets(unittest.TestCase):
         listing = "".join(f"{it}\n" for it in dcc.seen(self.halves))
         self.assertTrue(listing == self.listing)
         self.assertIn("refused H5", listing)
+
+    def faulty(self):
+        """Returns what a station with faults sends for these packets: short preambles, ones of 66 microseconds, zeros
+        of 85 microseconds, a preamble after a refusal, and half-bits of 20 microseconds."""
+        sent = []
+        for at, frame in enumerate(self.frames):
+            kind = at % 7
+            if kind == 4:
+                sent += [58] * 20 + [100, 70]
+            for place, us in list(enumerate(dcc.halves(frame)))[12 + kind if kind in (1, 4, 6) else 0 :]:
+                if us == 58 and kind in (2, 6):
+                    us = 66
+                if us == 100 and kind == 3:
+                    us = 85 + place % 5
+                sent.append(20 if kind == 5 and place == 60 else us)
+        return sent
+
+    def test_what_is_lost_is_what_lost_lists(self):
+        halves = self.faulty()
+        wanted = program("lost", "--words", text="\n".join(map(str, halves)) + "\n")
+        self.assertTrue("".join(f"{it}\n" for it in dcc.lost(halves)) == wanted)
+        for cause in ": preamble 17\n", ": preamble 12 after ", ": ones ", ": zeros ", ": preamble 12, ones ":
+            self.assertGreater(wanted.count(cause), 100, cause)
+
+    def test_in_runs_the_same_packets_are_lost(self):
+        # long runs, and a packet behind them
+        halves = self.faulty() + [58] * 5000 + [100] * 3000 + [58] * 16 + dcc.halves(SPEED)[28:] + [58] * 700
+        finder, listing = dcc.Lost(), ""
+        for us, run in itertools.groupby(halves):
+            listing += "".join(f"{it}\n" for it in finder.push(us, len(list(run))))
+        self.assertTrue(listing == program("lost", "--words", text="\n".join(map(str, halves)) + "\n"))
+        self.assertRegex(listing, " lost loco s3 speed28 f 4: preamble 16\n$")
 
     def test_a_frame_has_its_line(self):
         self.assertTrue(all(dcc.frame(dcc.line(it)) == it for it in self.frames))

@@ -107,6 +107,91 @@ static void an_array_is_taken_up_to_each_outcome(void) {
     HOLDS(dcc_push_many(&framer, halves, 168, &outcome, &taken) == 1 && taken == 41 && outcome.refusal == 1);
 }
 
+/* So `static dcc_lost finder;` needs no call before its first half-bit. */
+static void a_finder_of_zeros_is_a_new_one(void) {
+    static dcc_lost zeros, finder;
+    dcc_lost_new(&finder);
+    HOLDS(!memcmp(&zeros, &finder, sizeof zeros));
+}
+
+static bool is_off(const dcc_off_limits *off, uint32_t count, uint16_t least, uint16_t most) {
+    return off->count == count && off->least == least && off->most == most;
+}
+
+static bool is_short(const dcc_short_preamble *preamble, uint8_t ones, bool after_refusal, uint8_t since_refusal) {
+    return preamble->is_short && preamble->ones == ones && preamble->after_refusal == after_refusal
+        && preamble->since_refusal == since_refusal;
+}
+
+/* The body of loco s3 speed28 f 4, half-bit by half-bit; ones and zeros of other durations may stand for 58 and 100.
+ * Returns true if the packet is lost at the last half-bit, and no packet is lost before it. */
+static bool is_lost_at_its_end(dcc_lost *finder, uint16_t one, uint16_t zero, dcc_lost_packet *lost) {
+    uint16_t halves[DCC_HALVES];
+    HOLDS(dcc_halves(speed, 3, 14, halves) == 84);
+    for (int i = 28; i < 84; i++) {
+        uint8_t is_lost = dcc_lost_push(finder, halves[i] == 58 ? one : zero, lost);
+        if (is_lost != (i == 83)) return false;
+    }
+    return is_frame(&lost->frame, speed, 3);
+}
+
+static const dcc_lost_packet untouched = {{7, {7}}, {true, 7, true, 7}, {7, 7, 7}, {7, 7, 7}};
+
+static bool is_untouched(const dcc_lost_packet *lost) {
+    return lost->frame.len == 7 && lost->frame.bytes[0] == 7 && is_short(&lost->preamble, 7, true, 7)
+        && is_off(&lost->ones, 7, 7, 7) && is_off(&lost->zeros, 7, 7, 7);
+}
+
+static void a_packet_is_lost_for_each_cause(void) {
+    static dcc_lost finder;
+    dcc_lost_packet lost = untouched;
+    HOLDS(dcc_lost_push_run(&finder, 58, 16, &lost) == 0 && is_untouched(&lost));
+    HOLDS(is_lost_at_its_end(&finder, 58, 100, &lost) && is_short(&lost.preamble, 16, false, 0));
+    HOLDS(is_off(&lost.ones, 0, 0, 0) && is_off(&lost.zeros, 0, 0, 0));
+    /* the ones of the body and twenty before it are too long */
+    dcc_lost_new(&finder);
+    HOLDS(dcc_lost_push_run(&finder, 66, 28, &lost) == 0 && is_lost_at_its_end(&finder, 67, 100, &lost));
+    HOLDS(!lost.preamble.is_short && lost.preamble.ones == 0 && is_off(&lost.ones, 38, 66, 67));
+    HOLDS(is_off(&lost.zeros, 0, 0, 0));
+    /* the zeros of the body are too short, and the preamble too */
+    dcc_lost_new(&finder);
+    HOLDS(dcc_lost_push_run(&finder, 58, 19, &lost) == 0 && is_lost_at_its_end(&finder, 58, 85, &lost));
+    HOLDS(is_short(&lost.preamble, 19, false, 0) && is_off(&lost.ones, 0, 0, 0) && is_off(&lost.zeros, 38, 85, 85));
+    /* H1 ends with a half-bit of 70 microseconds, which is half of a one in the wider limits */
+    dcc_lost_new(&finder);
+    HOLDS(dcc_lost_push_run(&finder, 58, 20, &lost) == 0 && dcc_lost_push(&finder, 100, &lost) == 0);
+    HOLDS(dcc_lost_push(&finder, 70, &lost) == 0 && dcc_lost_push_run(&finder, 58, 11, &lost) == 0);
+    HOLDS(is_lost_at_its_end(&finder, 58, 100, &lost) && is_short(&lost.preamble, 11, true, 67));
+    HOLDS(is_off(&lost.ones, 1, 70, 70) && is_off(&lost.zeros, 0, 0, 0));
+}
+
+static void a_heard_packet_is_not_lost(void) {
+    static dcc_lost finder;
+    dcc_lost_packet lost = untouched;
+    HOLDS(dcc_lost_push_run(&finder, 58, 20, &lost) == 0 && !is_lost_at_its_end(&finder, 58, 100, &lost));
+    HOLDS(is_untouched(&lost));
+    /* seven half-bits of ones are no preamble */
+    dcc_lost_new(&finder);
+    HOLDS(dcc_lost_push_run(&finder, 58, 7, &lost) == 0 && !is_lost_at_its_end(&finder, 58, 100, &lost));
+    HOLDS(is_untouched(&lost));
+}
+
+/* A run ends in the middle of a run of equal half-bits, and long runs take no longer. */
+static void a_run_is_taken_up_to_a_lost_packet(void) {
+    static dcc_lost finder;
+    static const uint16_t runs[9][2] =
+        {{100, 14}, {58, 4}, {100, 4}, {58, 4}, {100, 6}, {58, 2}, {100, 6}, {58, 4}, {100, 8}};
+    dcc_lost_packet lost = untouched;
+    HOLDS(dcc_lost_push_run(&finder, 100, 4294967295, &lost) == 0 && dcc_lost_push_run(&finder, 58, 0, &lost) == 0);
+    HOLDS(dcc_lost_push_run(&finder, 58, 16, &lost) == 0);
+    for (int i = 0; i < 9; i++) HOLDS(dcc_lost_push_run(&finder, runs[i][0], runs[i][1], &lost) == 0);
+    HOLDS(is_untouched(&lost));
+    HOLDS(dcc_lost_push_run(&finder, 58, 40, &lost) == 4 && is_frame(&lost.frame, speed, 3));
+    HOLDS(is_short(&lost.preamble, 16, false, 0));
+    /* the rest of the run is a preamble that is long enough */
+    HOLDS(dcc_lost_push_run(&finder, 58, 36, &lost) == 0 && !is_lost_at_its_end(&finder, 58, 100, &lost));
+}
+
 static bool is_same(const dcc_packet *a, const dcc_packet *b) {
     return a->kind == b->kind && a->to == b->to && a->address == b->address
         && a->forward == b->forward && a->bits == b->bits
@@ -627,6 +712,10 @@ int main(void) {
     a_packet_is_found_at_its_last_half();
     runs_tell_the_half_and_refusals_their_numbers();
     an_array_is_taken_up_to_each_outcome();
+    a_finder_of_zeros_is_a_new_one();
+    a_packet_is_lost_for_each_cause();
+    a_heard_packet_is_not_lost();
+    a_run_is_taken_up_to_a_lost_packet();
     what_a_packet_says();
     no_frame_is_read();
     lines_and_their_faults();

@@ -16,8 +16,8 @@
 #endif
 
 #define FUNCTIONS(X) \
-    X(framer_new) X(push) X(push_run) X(push_many) X(read) X(line) X(frame_of_line) X(halves) X(sender_start) \
-    X(sender_half) \
+    X(framer_new) X(push) X(push_run) X(push_many) X(lost_new) X(lost_push) X(lost_push_run) X(read) X(line) \
+    X(frame_of_line) X(halves) X(sender_start) X(sender_half) \
     X(loco_new) X(loco_apply) X(loco_hears) X(board_new) X(board_apply) X(board_hears) X(service_new) \
     X(service_apply) X(loco_power_up) X(service_power_up) X(small_loco_new) X(small_loco_cv) X(small_loco_apply) \
     X(small_loco_hears) X(small_service_new) X(small_service_cv) X(small_service_apply) X(reader_new) \
@@ -38,6 +38,10 @@ static uint32_t next(void) {
 }
 static uint16_t below(uint16_t n) { return (uint16_t)((next() >> 8) % n); }
 static bool one_of(uint16_t n) { return below(n) == 0; }
+
+/* True in the first round, and then in one of n rounds: so few rounds call each function. */
+static bool is_first = true;
+static bool first_or_one_of(uint16_t n) { return one_of(n) || is_first; }
 
 static void called(int function) {
     now = function;
@@ -62,6 +66,7 @@ static void add_frame(const dcc_frame *frame) {
 /* ---- random arguments ---- */
 
 static dcc_framer framer;
+static dcc_lost finder;
 static dcc_sender sender;
 static dcc_loco loco;
 static dcc_board board;
@@ -210,12 +215,31 @@ static void call_framer(uint16_t us, uint32_t n) {
     add_bytes(&framer, sizeof framer);
 }
 
+static void add_off_limits(const dcc_off_limits *off) {
+    add(off->count), add(off->least), add(off->most);
+}
+
+static void call_finder(uint16_t us, uint32_t n) {
+    dcc_lost_packet lost;
+    uint32_t result;
+    memset(&lost, 1, sizeof lost);
+    do {
+        called(n == 1 ? F_lost_push : F_lost_push_run);
+        result = n == 1 ? dcc_lost_push(&finder, us, &lost) : dcc_lost_push_run(&finder, us, n, &lost);
+        n -= result ? result : n;
+        add(result), add_frame(&lost.frame), add_off_limits(&lost.ones), add_off_limits(&lost.zeros);
+        add(lost.preamble.is_short), add(lost.preamble.ones);
+        add(lost.preamble.after_refusal), add(lost.preamble.since_refusal);
+    } while (n > 0);
+    if (one_of(100)) add_bytes(&finder, sizeof finder);
+}
+
 static void call_packets(void) {
     static char text[DCC_LINE], at_end[DCC_LINE + 8];
     static uint16_t halves[DCC_HALVES];
     dcc_packet packet;
     dcc_frame back;
-    uint8_t count, i, size;
+    uint8_t count, i, size, slower;
     uint16_t run_us, at;
     uint32_t run;
     bool in_runs;
@@ -244,16 +268,26 @@ static void call_packets(void) {
     add(count);
     for (i = 0; i < DCC_HALVES; i++) add(halves[i]);
     in_runs = one_of(3);
-    for (i = 0; i < count; i++) {
+    /* some packets are lost: a part of the preamble is left out, or ones are too long */
+    slower = (uint8_t)(one_of(8) ? 8 : 0);
+    for (i = (uint8_t)(one_of(3) ? below(30) : 0); i < count; i++) {
         uint16_t us = one_of(200) ? (uint16_t)next() : (uint16_t)(halves[i] + below(7) - 3);
+        if (halves[i] == 58) us = (uint16_t)(us + slower);
         for (run = 1; in_runs && i + 1 < count && halves[i + 1] == halves[i] && !one_of(90); i++) run++;
         call_framer(us, run);
+        call_finder(us, run);
     }
     run_us = one_of(4) ? (uint16_t)next() : (uint16_t)(50 + below(70));
     run = below(60);
     if (one_of(2)) run = next() >> run % 32;
     call_framer(run_us, run);
-    if (one_of(50)) {
+    call_finder(run_us, run);
+    if (first_or_one_of(50)) {
+        called(F_lost_new);
+        dcc_lost_new(&finder);
+        add_bytes(&finder, sizeof finder);
+    }
+    if (first_or_one_of(50)) {
         called(F_framer_new);
         framer = dcc_framer_new();
         add_bytes(&framer, sizeof framer);
@@ -281,7 +315,7 @@ static void call_decoders(void) {
     bool heard = one_of(2);
     uint8_t asked[8];
     uint16_t cv;
-    if (one_of(40)) {
+    if (first_or_one_of(40)) {
         cv = below(DCC_CVS);
         cvs[cv] = some_byte(), cvs[0] = some_byte(), cvs[16] = some_byte(), cvs[28] = some_byte();
         called(F_loco_new);
@@ -291,7 +325,7 @@ static void call_decoders(void) {
         dcc_service_new(&service, cvs);
         add(service.in_service), add_frame(&service.pending), add_bytes(service.cvs, DCC_CVS);
     }
-    if (one_of(20)) {
+    if (first_or_one_of(20)) {
         called(F_board_new);
         add(dcc_board_new(&board, one_of(8) ? (uint16_t)next() : below(513)));
         add_board();
@@ -343,7 +377,7 @@ static void call_small_decoders(void) {
     bool heard = one_of(2), changed = one_of(2);
     uint8_t asked[8], cvs[4], value = some_byte(), times, i;
     uint16_t cv = 7;
-    if (one_of(30)) {
+    if (first_or_one_of(30)) {
         called(F_small_loco_new);
         for (i = 0; i < 4; i++) cvs[i] = some_byte();
         dcc_small_loco_new(&small_loco, cvs[0], cvs[1], cvs[2], cvs[3]);
@@ -377,7 +411,7 @@ static void call_small_decoders(void) {
         add(dcc_small_service_apply(&small_service, asked, len, &value, &changed, &heard));
         add(value), add(changed), add(heard), add(small_service.in_service), add_frame(&small_service.pending);
     }
-    if (one_of(40)) {
+    if (first_or_one_of(40)) {
         called(F_loco_power_up);
         dcc_loco_power_up(&loco);
         add_loco();
@@ -391,7 +425,7 @@ static void call_reader(void) {
     dcc_frame question;
     uint8_t value = 7;
     memset(&question, 7, sizeof question);
-    if (one_of(10)) {
+    if (first_or_one_of(10)) {
         called(F_reader_new);
         add(dcc_reader_new(&reader, one_of(4) ? (uint16_t)next() : below(1027)));
     }
@@ -408,7 +442,7 @@ static void call_reader(void) {
 
 static void call_station(void) {
     dcc_frame sent;
-    if (one_of(50)) {
+    if (first_or_one_of(50)) {
         uint8_t queue = (uint8_t)(one_of(4) ? below(70) : 1 + below(9));
         uint8_t slots = (uint8_t)(one_of(4) ? below(135) : 1 + below(9));
         called(F_station_new);
@@ -439,6 +473,7 @@ int main(int argc, char **argv) {
         call_small_decoders();
         call_reader();
         call_station();
+        is_first = false;
     }
     FUNCTIONS(SHOW)
     return 0;

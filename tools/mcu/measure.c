@@ -16,6 +16,8 @@ static uint32_t at;
 static dcc_framer framer;
 static dcc_outcome outcome;
 static uint64_t taken;
+static dcc_lost finder;
+static dcc_lost_packet lost;
 static dcc_packet packet;
 static char line[DCC_LINE];
 static uint16_t sent[DCC_HALVES];
@@ -41,6 +43,18 @@ static void nothing(void) {}
 static void push(void) { dcc_push(&framer, halves[at], &outcome); }
 static void push_run(void) { dcc_push_run(&framer, halves[at], 1, &outcome); }
 static void push_many(void) { dcc_push_many(&framer, &halves[at], 1, &outcome, &taken); }
+static void new_finder(void) { dcc_lost_new(&finder); }
+static void push_lost(void) { dcc_lost_push(&finder, halves[at], &lost); }
+static void push_lost_run(void) { dcc_lost_push_run(&finder, halves[at], 1, &lost); }
+/* The last half-bit of a packet that is lost, since its preamble has 16 half-bits of ones. */
+static void make_end(void) {
+    uint32_t count = dcc_halves(GIVEN, 14, sent);
+    dcc_lost_new(&finder);
+    for (uint32_t i = 12; i + 1 < count; i++) dcc_lost_push(&finder, sent[i], &lost);
+}
+static void push_end(void) {
+    if (!dcc_lost_push(&finder, 58, &lost)) exit(6);
+}
 static void read_frame(void) { dcc_read(GIVEN, &packet); }
 static void write_line(void) { dcc_line(GIVEN, line); }
 static void send(void) { dcc_halves(GIVEN, 16, sent); }
@@ -245,6 +259,10 @@ int main(void) {
     measure("dcc_push", push, half_count);
     measure("dcc_push_run", push_run, half_count);
     measure("dcc_push_many", push_many, half_count);
+    measure("dcc_lost_new", new_finder, 100);
+    measure("dcc_lost_push", push_lost, half_count);
+    measure("dcc_lost_push_run", push_lost_run, half_count);
+    measure_behind("dcc_lost_push:lost", make_end, push_end, frame_count);
     measure("dcc_read", read_frame, frame_count);
     measure("dcc_line", write_line, frame_count);
     measure("dcc_frame_of_line", read_line, frame_count);

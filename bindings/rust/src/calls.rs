@@ -3,6 +3,7 @@ use crate::board::Board;
 use crate::frame::Frame;
 use crate::framer::Framer;
 use crate::loco::Loco;
+use crate::lost::{LostFinder, OffLimits};
 use crate::reader::Reader;
 use crate::sending::{Halves, Timing};
 use crate::service::Service;
@@ -23,6 +24,45 @@ impl Outcome {
         at: 0,
         refusal: 0,
         frame: Frame::NONE,
+    };
+}
+
+/// `dcc_short_preamble`.
+#[repr(C)]
+pub(crate) struct Preamble {
+    pub is_short: bool,
+    pub ones: u8,
+    pub after_refusal: bool,
+    pub since_refusal: u8,
+}
+
+/// `dcc_lost_packet`.
+#[repr(C)]
+pub(crate) struct Lost {
+    pub frame: Frame,
+    pub preamble: Preamble,
+    pub ones: OffLimits,
+    pub zeros: OffLimits,
+}
+
+impl Lost {
+    /// An empty lost packet, for the library to write.
+    pub(crate) const NONE: Lost = Lost {
+        frame: Frame::NONE,
+        preamble: Preamble {
+            is_short: false,
+            ones: 0,
+            after_refusal: false,
+            since_refusal: 0,
+        },
+        ones: Lost::NO_HALVES,
+        zeros: Lost::NO_HALVES,
+    };
+
+    const NO_HALVES: OffLimits = OffLimits {
+        count: 0,
+        least: 0,
+        most: 0,
     };
 }
 
@@ -57,6 +97,14 @@ extern "C" {
         outcome: *mut Outcome,
         taken: *mut u64,
     ) -> u8;
+    pub(crate) fn dcc_lost_new(finder: *mut LostFinder);
+    pub(crate) fn dcc_lost_push(finder: *mut LostFinder, us: u16, packet: *mut Lost) -> u8;
+    pub(crate) fn dcc_lost_push_run(
+        finder: *mut LostFinder,
+        us: u16,
+        n: u32,
+        packet: *mut Lost,
+    ) -> u32;
     pub(crate) fn dcc_read(frame: *const u8, len: u64, packet: *mut Numbers) -> u8;
     pub(crate) fn dcc_line(frame: *const u8, len: u64, line: *mut u8) -> u8;
     pub(crate) fn dcc_frame_of_line(line: *const u8, len: u64, frame: *mut Frame) -> u8;
@@ -104,6 +152,8 @@ extern "C" {
 const _: () = assert!(size_of::<Frame>() == 7);
 const _: () = assert!(size_of::<Framer>() == 24);
 const _: () = assert!(size_of::<Outcome>() == 12);
+const _: () = assert!(size_of::<LostFinder>() == 808);
+const _: () = assert!(size_of::<Lost>() == 28);
 const _: () = assert!(size_of::<Numbers>() == 18);
 const _: () = assert!(size_of::<Timing>() == 8);
 const _: () = assert!(size_of::<Halves>() == 16);

@@ -2,7 +2,7 @@
 mod common;
 
 use common::{bit, dcc, name, on, random_lines, side, Fleet};
-use dcc::{CommandFault, Frame, Framer, Packet, Seen, Station, Timing};
+use dcc::{CommandFault, Frame, Framer, LostFinder, LostPacket, OffLimits, Packet, Seen, Station, Timing};
 use std::fmt::Write as _;
 
 fn frames(lines: &str) -> Vec<Frame> {
@@ -86,6 +86,74 @@ fn a_run_shows_what_its_halves_show() {
         at += n as usize;
     }
     assert!(of_runs == seen(&halves).collect::<Vec<_>>());
+}
+
+/// What a station with faults sends for these packets: short preambles, ones of 66 microseconds, zeros of 85
+/// microseconds, a preamble after a refusal, and half-bits of 20 microseconds.
+fn faulty(lines: &str) -> Vec<u16> {
+    let mut sent = Vec::new();
+    for (at, frame) in frames(lines).iter().enumerate() {
+        let (is_short, is_slow) = (matches!(at % 7, 1 | 4 | 6), matches!(at % 7, 2 | 6));
+        if at % 7 == 4 {
+            sent.extend([58; 20].into_iter().chain([100, 70]));
+        }
+        let skipped = if is_short { 12 + at % 7 } else { 0 };
+        for (place, us) in frame.halves(&Timing::MAIN).enumerate().skip(skipped) {
+            sent.push(match us {
+                58 if is_slow => 66,
+                100 if at % 7 == 3 => 85 + (place % 5) as u16,
+                _ if at % 7 == 5 && place == 60 => 20,
+                _ => us,
+            });
+        }
+    }
+    sent
+}
+
+/// The line of a lost packet, as the program writes it.
+fn lost_line(half: usize, lost: &LostPacket) -> String {
+    let off = |name: &str, it: &OffLimits| format!("{name} {} from {} to {}", it.count, it.least, it.most);
+    let mut causes: Vec<String> = Vec::new();
+    causes.extend(lost.preamble.map(|it| match it.since_refusal {
+        None => format!("preamble {}", it.ones),
+        Some(since) => format!("preamble {} after {}", it.ones, half - usize::from(since)),
+    }));
+    causes.extend(lost.ones.iter().map(|it| off("ones", it)));
+    causes.extend(lost.zeros.iter().map(|it| off("zeros", it)));
+    format!("{half} lost {}: {}\n", lost.frame, causes.join(", "))
+}
+
+#[test]
+fn what_is_lost_is_what_lost_lists() {
+    let halves = faulty(&random_lines());
+    let (mut finder, mut listing) = (LostFinder::new(), String::new());
+    for (at, us) in halves.iter().enumerate() {
+        listing.extend(finder.push(*us).map(|it| lost_line(at + 1, &it)));
+    }
+    assert!(listing == dcc(&["lost", "--words"], &capture(&halves)));
+    for cause in [": preamble 17\n", ": preamble 12 after ", ": ones ", ": zeros ", ": preamble 12, ones "] {
+        assert!(listing.matches(cause).count() > 100, "{cause}");
+    }
+}
+
+#[test]
+fn in_runs_the_same_packets_are_lost() {
+    let mut halves = faulty(&random_lines());
+    // long runs, and a packet behind them
+    halves.extend([58; 5000].into_iter().chain([100; 3000]).chain([58; 16]));
+    halves.extend(frames("loco s3 speed28 f 4")[0].halves(&Timing::MAIN).skip(28));
+    halves.extend([58; 700]);
+    let (mut finder, mut listing, mut at) = (LostFinder::default(), String::new(), 0);
+    for (us, mut n) in runs(&halves) {
+        while n > 0 {
+            let found = finder.push_run(us, n);
+            let taken = found.map_or(n, |it| it.0);
+            (at, n) = (at + taken as usize, n - taken);
+            listing.extend(found.map(|it| lost_line(at, &it.1)));
+        }
+    }
+    assert!(listing == dcc(&["lost", "--words"], &capture(&halves)));
+    assert!(listing.ends_with(" lost loco s3 speed28 f 4: preamble 16\n"));
 }
 
 /// The line of a packet, by what its fields say.

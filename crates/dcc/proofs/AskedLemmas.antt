@@ -21,3 +21,9 @@ pub first_word : (found : Found) (id : Text) (word : Option (Bor (List ℕ)))
     → option_map (λ s. s.now) word ≡ first_value found id
     → first_of id (rows_of found) ≡ option_map (λ s. s.now) word
 first_word found id word is = sym (is ∙ first_value-rows found id)
+
+pub some_is_none : (n : ℕ) → Some n ≡ None → ⊥
+some_is_none n e = cc
+
+pub same_number : (a b : ℕ) → Some a ≡ Some b → a ≡ b
+same_number a b e = cc

@@ -68,13 +68,32 @@ ReadsCvOf rows result = (text : Text) → one_of (codes "cv") rows ≡ Some text
     (empty : Bool) × IsFlag (codes "empty") rows empty
     × (result ≡ reading_of (cv_of (digits_value 10 (without_leading_plus text))) empty)
 
+-- the request to list a capture, in plain words if `plain` is true, and with packet lines if `words`
+-- is true. If both are true, the result is the error U1.
+abbrev pub showing : Bool → Bool → Result Request ToolFault
+showing false words = Ok (request.Show words)
+showing true false = Ok request.ShowPlain
+showing true true = Err (fault.Usage usage.Words)
+
+abbrev pub ShowsOf : List Row → Result Request ToolFault → Type 0
+ShowsOf rows result =
+    (plain : Bool) × (words : Bool) × IsFlag (codes "plain") rows plain × IsFlag (codes "words") rows words
+    × (result ≡ showing plain words)
+
+-- `listing` is the request to list lost packets. If the option `--spikes` was given, half-bits shorter
+-- than its value are spikes.
+pub record ListsLostOf (rows : List Row) (listing : Request) : Type 0 where
+  pub words : Bool
+  pub flag : IsFlag (codes "words") rows words
+  pub absent : one_of (codes "spikes") rows ≡ None → listing ≡ request.Lost words
+  pub given : (text : Text) → one_of (codes "spikes") rows ≡ Some text → IsNumber 8 text
+      → listing ≡ request.LostWithSpikes words (digits_value 10 (without_leading_plus text))
+
 -- `result` is the request of the subcommand `name` with the parsed arguments `rows`. If these
 -- arguments have an error, `result` is this error.
 pub record IsRequestNamed (name : Text) (rows : List Row) (result : Result Request ToolFault) : Type 0 where
-  pub show : name ≡ codes "show"
-      → (words : Bool) × IsFlag (codes "words") rows words × (result ≡ Ok (request.Show words))
-  pub lost : name ≡ codes "lost"
-      → (words : Bool) × IsFlag (codes "words") rows words × (result ≡ Ok (request.Lost words))
+  pub show : name ≡ codes "show" → ShowsOf rows result
+  pub lost : name ≡ codes "lost" → (listing : Request) × ListsLostOf rows listing × (result ≡ Ok listing)
   pub encode : name ≡ codes "encode" → (how : Encode) × IsEncoding rows how × (result ≡ Ok (request.Encode how))
   pub run : name ≡ codes "run" → result ≡ Ok request.Run
   pub same : name ≡ codes "same" → result ≡ comparison (first_of (codes "who") rows)

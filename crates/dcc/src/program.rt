@@ -26,12 +26,28 @@ where
 {
     let words = words_of(rt)?;
     match asked(rt.alloc(), words.as_slice()) {
+        Ok(Err(ToolFault::Usage(Usage::Words))) => {
+            print_conflict(rt);
+            Err(ToolFault::Usage(Usage::Words))
+        }
         Ok(request) => perform(rt.alloc(), request?, input, writer),
         Err(error) => {
             print_clap_error(rt, &error)?;
             Ok(Ending::Done)
         }
     }
+}
+
+/// Writes the error of the only two options that exclude each other, in the form of clap. The
+/// definition that the proof of clap uses has no such options, so clap accepts both.
+fn print_conflict<T: Eprint>(rt: &T) {
+    let _ = eprintln!(rt;
+        "error: the argument '--plain' cannot be used with '--words'
+
+Usage: dcc show --plain
+
+For more information, try '--help'."
+    );
 }
 
 /// Returns the arguments. The first argument is `dcc` in place of the name of the program, since

@@ -3,7 +3,7 @@ ghost use Rattle.std.specs.Prelude.{◌≡◌, IfOk, codes, map};
 ghost use Rattle.clap.specs.Words.{FailsBy, fault_of, first_of, found_of, rows_of, subcommand_of, subcommand_rows_of};
 ghost use Rattle.dcc_command.specs.CommandLine.{dcc_app};
 ghost use Rattle.dcc.specs.Asked.{IsRequestNamed, IsRequestOf, IsEncoding, IsFlag, IsSize, IsStation, ReadsCvOf};
-ghost use Rattle.dcc.specs.Asked.{comparison};
+ghost use Rattle.dcc.specs.Asked.{ListsLostOf, ShowsOf, comparison};
 
 use clap::{ArgMatches, Error};
 use dcc_command::taken;
@@ -27,7 +27,7 @@ pub fn asked<S: AsStr>(alloc: Global, words: &[S]) -> Result<Result<Request, Too
 
 /// Returns the request that parsed arguments express.
 ///
-/// Errors: U1 if the value of `--who` names no decoder.
+/// Errors: U1 if the value of `--who` names no decoder, or if two options exclude each other.
 fn request_of(matches: &ArgMatches) -> Result<Request, ToolFault>
     ensures { IsRequestOf (subcommand_rows_of matches.now) result }
 {
@@ -42,12 +42,8 @@ fn request_named(name: &str, found: &ArgMatches) -> Result<Request, ToolFault>
     ensures { IsRequestNamed name.now (rows_of (found_of found.now)) result }
 {
     match name {
-        "show" => Ok(Request::Show {
-            words: flag_of(found, "words"),
-        }),
-        "lost" => Ok(Request::Lost {
-            words: flag_of(found, "words"),
-        }),
+        "show" => showing_of(found),
+        "lost" => Ok(listing_of(found)),
         "encode" => Ok(Request::Encode(encoding_of(found))),
         "run" => Ok(Request::Run),
         "same" => comparison_of(found),
@@ -63,6 +59,33 @@ fn flag_of(matches: &ArgMatches, id: &str) -> bool
     ensures { IsFlag id.now (rows_of (found_of matches.now)) result }
 {
     matches.get_flag(id)
+}
+
+/// Returns the request to list a capture.
+///
+/// Errors: U1 if both `--plain` and `--words` were given.
+fn showing_of(matches: &ArgMatches) -> Result<Request, ToolFault>
+    ensures { ShowsOf (rows_of (found_of matches.now)) result }
+{
+    let plain = flag_of(matches, "plain");
+    let words = flag_of(matches, "words");
+    match (plain, words) {
+        (false, _) => Ok(Request::Show { words }),
+        (true, false) => Ok(Request::ShowPlain),
+        (true, true) => Err(ToolFault::Usage(Usage::Words)),
+    }
+}
+
+/// Returns the request to list lost packets. With `--spikes`, half-bits are joined with the spikes
+/// next to them. clap accepts only limits from 1 to 25.
+fn listing_of(matches: &ArgMatches) -> Request
+    ensures { ListsLostOf (rows_of (found_of matches.now)) result }
+{
+    let words = flag_of(matches, "words");
+    match matches.get_one::<u8>("spikes") {
+        None => Request::Lost { words },
+        Some(limit) => Request::LostWithSpikes { words, limit },
+    }
 }
 
 /// Returns the value of the option `id`, 0 to 255. Returns `other` if the option was not given.

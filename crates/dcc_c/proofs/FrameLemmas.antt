@@ -1,11 +1,13 @@
 -- Frames are told apart by their numbers.
 use Rattle.std.proofs.Common.{◌≡◌, ℕ, ◌<◌, Bool, List, length, nat_eq, slice_index_or, below_more, arith, ap, ap₂, sym}
-use Rattle.std.proofs.Common.{◌∙◌}
+use Rattle.std.proofs.Common.{◌∙◌, ◌++◌, ◌-◌, ◌≤◌, ◌+◌, ◌*◌, [], refl, replicate}
 use Rattle.std.specs.Prelude.{◌&&◌}
 use Rattle.std.specs.Bool.{Decides}
 use Rattle.std.proofs.lemmas.Bool.Decides.{Decides-and, Decides-eqb, Decides-like}
 use Rattle.std.proofs.lemmas.List.{ext_get_or}
+use Rattle.dcc_wire.proofs.PaddedLemmas.{padded_front, padded_zeros, six as six_of}
 use Rattle.dcc_c.specs.declared.frame.DccFrame.{DccFrame}
+use Rattle.dcc_c.specs.Frames.{frame_numbers}
 
 -- the number at a place, and whether two frames have the same there
 abbrev byte_at : DccFrame → ℕ → ℕ
@@ -43,3 +45,30 @@ Decides-frame f g long too =
     (Decides-and _ _ (Decides-and _ _ (Decides-and _ _ (Decides-and _ _ (Decides-and _ _
     (Decides-and _ _ (Decides-eqb f.len g.len) (each f g 0)) (each f g 1)) (each f g 2)) (each f g 3)) (each f g 4))
     (each f g 5))
+
+-- six bytes, each a byte of a list or zero
+pub six_bytes : (xs : List ℕ) → length xs ≤ 6 → six_of xs ≡ xs ++ replicate (6 - length xs) 0
+six_bytes xs few = (padded_zeros xs few).zeros ∙ ap (λ (front : List ℕ). front ++ replicate (6 - length xs) 0)
+    (padded_front xs few)
+
+-- a structure without bytes is told by two numbers of its bytes
+pub Decides-none : (f : DccFrame) (low high : ℕ) → length f.bytes ≡ 6
+    → low ≡ byte_at f 0 + 256 * byte_at f 1 + 65536 * byte_at f 2 + 16777216 * byte_at f 3
+    → high ≡ byte_at f 4 + 256 * byte_at f 5
+    → Decides (nat_eq f.len 0 && nat_eq low 0 && nat_eq high 0) (f ≡ frame_numbers [])
+Decides-none f low high long e g =
+    Decides-like _
+    (λ p. let a = p.0.1 in let b = p.1 in
+    ap₂ (λ (len : ℕ) (bytes : List ℕ). record { len = len; bytes = bytes }) p.0.0
+    (six f.bytes (replicate 6 0) long refl (omega arith) (omega arith) (omega arith) (omega arith) (omega arith)
+    (omega arith)))
+    (λ same.
+    let at : (k : ℕ) → byte_at f k ≡ byte_at (frame_numbers []) k = λ k. ap (λ (h : DccFrame). byte_at h k) same in
+    let b0 : byte_at f 0 ≡ 0 = at 0 in
+    let b1 : byte_at f 1 ≡ 0 = at 1 in
+    let b2 : byte_at f 2 ≡ 0 = at 2 in
+    let b3 : byte_at f 3 ≡ 0 = at 3 in
+    let b4 : byte_at f 4 ≡ 0 = at 4 in
+    let b5 : byte_at f 5 ≡ 0 = at 5 in
+    ((ap (λ (h : DccFrame). h.len) same, omega arith), omega arith))
+    (Decides-and _ _ (Decides-and _ _ (Decides-eqb f.len 0) (Decides-eqb low 0)) (Decides-eqb high 0))

@@ -1,5 +1,6 @@
 pub mod Frames
 pub mod Outcomes
+pub mod LostPackets
 pub mod Packets
 pub mod Lines
 pub mod Halves
@@ -14,3 +15,4 @@ pub mod Readers
 pub mod KeptPackets
 pub mod KeptPacketLaw
 pub mod Stations
+pub mod Inner

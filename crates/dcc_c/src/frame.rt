@@ -1,6 +1,6 @@
 //! A frame as a C struct.
 
-ghost use Rattle.std.specs.Prelude.{◌≡◌, ◌≤◌, length, MatchResult};
+ghost use Rattle.std.specs.Prelude.{◌≡◌, ◌≤◌, length, get_or, MatchResult};
 ghost use Rattle.dcc_wire.specs.Frames.{IsFrame};
 ghost use Rattle.dcc_c.specs.Frames.{frame_answer, frame_numbers};
 
@@ -17,7 +17,8 @@ pub struct DccFrame {
 }
 
 impl DccFrame {
-    ghost use Rattle.std.specs.Prelude.{◌≡◌, ◌≤◌, ◌↔◌, IsTrue, length};
+    ghost use Rattle.std.specs.Prelude.{◌≡◌, ◌≤◌, ◌↔◌, IsTrue, [], length};
+    ghost use Rattle.dcc_wire.specs.Frames.{IsFrame};
     ghost use Rattle.dcc_c.specs.Frames.{bytes_of, frame_numbers};
 
     /// Creates the struct of the bytes `bytes`. There must be at most six bytes.
@@ -30,6 +31,26 @@ impl DccFrame {
         DccFrame {
             len: bytes.len() as u8,
             bytes: padded,
+        }
+    }
+
+    /// Creates the struct of the bytes of a frame.
+    // reads byte by byte, since a copy of variable length would be a function call
+    #[inline(always)]
+    pub(crate) fn of_frame(bytes: &[u8]) -> DccFrame
+        requires { length bytes.now ≤ 6 }
+        ensures { result ≡ frame_numbers bytes.now }
+    {
+        DccFrame {
+            len: bytes.len() as u8,
+            bytes: [
+                byte_or_zero(bytes, 0),
+                byte_or_zero(bytes, 1),
+                byte_or_zero(bytes, 2),
+                byte_or_zero(bytes, 3),
+                byte_or_zero(bytes, 4),
+                byte_or_zero(bytes, 5),
+            ],
         }
     }
 
@@ -49,12 +70,47 @@ impl DccFrame {
             & (a[5] == b[5])
     }
 
+    /// Returns true if the struct has no bytes, so that all its fields are 0.
+    // adds the bytes up to two numbers, each of which the compiler reads at once
+    #[inline(always)]
+    pub(crate) fn is_none(&self) -> bool
+        ensures { IsTrue result ↔ (self.now ≡ frame_numbers []) }
+    {
+        let bytes = &self.bytes;
+        let low = u32::from(bytes[0])
+            + (u32::from(bytes[1]) << 8)
+            + (u32::from(bytes[2]) << 16)
+            + (u32::from(bytes[3]) << 24);
+        let high = u32::from(bytes[4]) + (u32::from(bytes[5]) << 8);
+        (self.len == 0) & (low == 0) & (high == 0)
+    }
+
+    /// Returns true if the struct has the bytes of the frame `frame`.
+    #[inline(always)]
+    pub(crate) fn is_of(&self, frame: &[u8]) -> bool
+        requires { IsFrame frame.now }
+        ensures { IsTrue result ↔ (self.now ≡ frame_numbers frame.now) }
+    {
+        if self.len == 0 {
+            return false;
+        }
+        self.is(&DccFrame::of_frame(frame))
+    }
+
     /// Returns the bytes of the frame, without the zeros after it.
     pub fn as_slice(&self) -> &[u8]
         ensures { result.now ≡ bytes_of self.now }
     {
         &self.bytes[..usize::from(self.len).min(6)]
     }
+}
+
+/// Returns the byte at `place`, or zero if the list is shorter.
+#[inline(always)]
+fn byte_or_zero(bytes: &[u8], place: usize) -> u8
+    ensures { result ≡ get_or bytes.now place 0 }
+{
+    if place < bytes.len() { bytes[place] } else { 0 }
 }
 
 /// Returns the frame that consists of `bytes`, or the number of the error: 1 for L1, 2 for L2.

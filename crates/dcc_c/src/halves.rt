@@ -1,14 +1,15 @@
 //! A function that writes the half-bits of a packet that is sent.
 
-ghost use Rattle.std.specs.Prelude.{◌≡◌, ◌≤◌, length, take, drop, true, false, IfSome, IfNone};
+ghost use Rattle.std.specs.Prelude.{◌≡◌, ◌≤◌, ◌+◌, ◌∷◌, ◌++◌, [], take, drop, true, false, IfSome, IfNone};
 ghost use Rattle.dcc_wire.specs.declared.timing.Timing.{Timing};
 ghost use Rattle.dcc_wire.specs.Frames.{IsFrame};
-ghost use Rattle.dcc_wire.specs.Sending.{sent};
+ghost use Rattle.dcc_wire.specs.Bodies.{bits_of};
+ghost use Rattle.dcc_wire.specs.Sending.{durations_of, sent};
 ghost use Rattle.dcc_wire.specs.Timings.{is_preamble};
 ghost use Rattle.dcc_c.specs.Halves.{IsNominal, is_sendable_by_numbers};
 
 use crate::frame::check_frame;
-use dcc_wire::{Halves, Timing};
+use dcc_wire::Timing;
 
 /// Writes the half-bits of the frame `frame` after `preamble` ones, 14 to 40, to `halves`. Each
 /// half-bit of a one takes 58 microseconds, and each half-bit of a zero takes 100 microseconds.
@@ -45,7 +46,8 @@ fn nominal(preamble: u8) -> Option<Timing>
     }
 }
 
-/// Writes the half-bits of a frame, two at a time. Returns the number of half-bits.
+/// Writes the half-bits of the preamble, of each byte of a frame, and of the end bit. Returns the
+/// number of half-bits.
 fn put_halves(frame: &[u8], timing: &Timing, halves: &mut [u16; 190]) -> u8
     requires frame { IsFrame frame.now }
     requires short { timing.now.preamble ≤ 40 }
@@ -54,15 +56,50 @@ fn put_halves(frame: &[u8], timing: &Timing, halves: &mut [u16; 190]) -> u8
     ensures behind { drop result halves.new ≡ drop result halves.old }
 {
     let mut count = 0;
-    let mut left = Halves::of_bytes(frame, timing);
-    'bits: while let Some((first, second)) = left.take_bit() {
-        halves[count] = first;
-        halves[count + 1] = second;
-        count += 2;
+    for _ in 0..timing.preamble {
+        count = put_bit(true, timing, halves, count);
     }
-    for us in left {
-        halves[count] = us;
-        count += 1;
+    for &byte in frame {
+        count = put_byte(byte, timing, halves, count);
     }
-    count as u8
+    let len = put_bit(true, timing, halves, count);
+    len as u8
+}
+
+/// Writes the half-bits of a zero and of the eight bits of `byte` after the first `count`
+/// half-bits. Returns the place after the last written half-bit.
+#[inline(always)]
+fn put_byte(byte: u8, timing: &Timing, halves: &mut [u16; 190], count: usize) -> usize
+    requires room { count + 18 ≤ 190 }
+    ensures written { take result halves.new
+        ≡ take count halves.old ++ durations_of timing.now (false ∷ bits_of 8 byte) }
+    ensures count { result ≡ count + 18 }
+    ensures behind { drop result halves.new ≡ drop result halves.old }
+{
+    let mut written = put_bit(false, timing, halves, count);
+    let mut place = 8u8;
+    'bits: while place > 0 {
+        place -= 1;
+        written = put_bit((byte >> place) & 1 == 1, timing, halves, written);
+    }
+    written
+}
+
+/// Writes the two half-bits of a one, or of a zero if `one` is false, after the first `count`
+/// half-bits. Returns the place after the last written half-bit.
+#[inline(always)]
+fn put_bit(one: bool, timing: &Timing, halves: &mut [u16; 190], count: usize) -> usize
+    requires room { count + 2 ≤ 190 }
+    ensures written { take result halves.new ≡ take count halves.old ++ durations_of timing.now (one ∷ []) }
+    ensures count { result ≡ count + 2 }
+    ensures behind { drop result halves.new ≡ drop result halves.old }
+{
+    let (first, second) = if one {
+        (timing.one, timing.one)
+    } else {
+        (timing.zero_first, timing.zero_second)
+    };
+    halves[count] = first;
+    halves[count + 1] = second;
+    count + 2
 }

@@ -1,7 +1,7 @@
-//! The toolkit for programs in C. The functions find packets in half-bits, read and send packets,
-//! and implement decoders, command stations, the programming track and the reading of CVs. The
-//! caller owns the memory of all objects, and no function allocates. `include/dcc.h` declares these
-//! functions and lists the duties of a caller.
+//! The toolkit for programs in C. The functions find packets and lost packets in half-bits, read and
+//! send packets, and implement decoders, command stations, the programming track and the reading of
+//! CVs. The caller owns the memory of all objects, and no function allocates. `include/dcc.h`
+//! declares these functions and lists the duties of a caller.
 #![tactic(auto)]
 
 mod board;
@@ -12,6 +12,9 @@ mod kept_packet;
 mod line;
 mod loco;
 mod loco_numbers;
+mod loco_setting;
+mod lost;
+mod lost_packet;
 mod outcome;
 mod packet;
 mod push_many;
@@ -28,6 +31,7 @@ mod timing;
 pub use board::DccBoard;
 pub use frame::DccFrame;
 pub use loco_numbers::{DccLoco, DccLocoRegisters};
+pub use lost_packet::{DccLostPacket, DccOffLimits, DccShortPreamble};
 pub use outcome::DccOutcome;
 pub use packet::DccPacket;
 pub use reader::DccReader;

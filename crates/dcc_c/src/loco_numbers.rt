@@ -2,6 +2,7 @@
 
 ghost use Rattle.std.specs.Prelude.{◌≡◌, ◌↔◌, ℕ, ◌≤◌, ◌^◌, ◌<◌, true, Option, Some, None, Ok, IfSome, IfOk, IfErr};
 ghost use Rattle.std.specs.Prelude.{IsTrue, List};
+ghost use Rattle.dcc_wire.specs.Frames.{IsFrame};
 ghost use Rattle.dcc_packet.specs.declared.address.Address.{Address};
 ghost use Rattle.dcc_packet.specs.declared.address.LongAddress.{LongAddress};
 ghost use Rattle.dcc_packet.specs.declared.address.ShortAddress.{ShortAddress};
@@ -10,7 +11,8 @@ ghost use Rattle.dcc_packet.specs.Spelling.{spelling};
 ghost use Rattle.dcc_regs.specs.declared.loco_state.LocoState.{LocoState};
 ghost use Rattle.dcc_regs.specs.declared.register.Speed.{Speed};
 ghost use Rattle.dcc_regs.specs.Addresses.{is_active};
-ghost use Rattle.dcc_regs.specs.Loco.{is_pending_for};
+ghost use Rattle.dcc_regs.specs.Loco.{is_byte_write, is_pending_for, is_speed as is_speed_in_range};
+ghost use Rattle.dcc_regs.specs.Writes.{is_own_write as is_own_write_of};
 ghost use Rattle.dcc_regs.specs.LocoRegisters.{registers_in, with_cvs};
 ghost use Rattle.dcc_regs.specs.LocoState.{is_state};
 ghost use Rattle.dcc_c.specs.Packets.{address_kind, address_number};
@@ -19,8 +21,9 @@ ghost use Rattle.dcc_c.specs.Locos.{speed_mode, speed_step, words_of};
 
 use crate::frame::DccFrame;
 use crate::packet::{address_kind, address_number};
-use dcc_packet::{Address, Packet, PacketFault};
-use dcc_regs::{LocoRegisters, Speed};
+use dcc_packet::frame_laws::each_frame_is_a_packet;
+use dcc_packet::{Address, Packet, PacketFault, read_loco};
+use dcc_regs::{LocoRegisters, Speed, is_own_write, loco_hears_frame};
 use dcc_wire::Frame;
 
 /// The registers of a locomotive decoder except its CVs as a C struct.
@@ -97,7 +100,7 @@ fn own_number(own: &Option<Address>) -> u16
     }
 }
 
-fn speed_mode(speed: Speed) -> u8
+pub(crate) fn speed_mode(speed: Speed) -> u8
     ensures { result ≡ speed_mode speed }
 {
     match speed {
@@ -109,7 +112,7 @@ fn speed_mode(speed: Speed) -> u8
     }
 }
 
-fn speed_step(speed: Speed) -> u8
+pub(crate) fn speed_step(speed: Speed) -> u8
     ensures { result ≡ speed_step speed }
 {
     match speed {
@@ -130,7 +133,7 @@ pub(crate) fn pending_left(pending: &Option<Packet>, frame: &Frame) -> DccFrame
     }
 }
 
-fn words_of(bits: u128) -> [u64; 2]
+pub(crate) fn words_of(bits: u128) -> [u64; 2]
     ensures { result ≡ words_of bits }
 {
     [(bits % WORD) as u64, (bits / WORD) as u64]
@@ -189,6 +192,8 @@ fn read(numbers: &DccLocoRegisters, registers: &mut LocoRegisters) -> bool
 /// Returns the address in the fields, or `None` if the decoder has no address.
 ///
 /// Errors: P13 if no decoder can have this address.
+// inlined, as `address_of` is, since a call of its own takes 32 bytes of stack
+#[inline(always)]
 pub(crate) fn own_address(numbers: &DccLocoRegisters) -> Result<Option<Address>, PacketFault>
     ensures found { (own : Option Address) → HasAddress numbers.now own → result ≡ Ok own }
     ensures address { IfOk result (HasAddress numbers.now) }
@@ -197,6 +202,7 @@ pub(crate) fn own_address(numbers: &DccLocoRegisters) -> Result<Option<Address>,
     address_of(numbers.address_kind, numbers.address).ok_or(PacketFault::State)
 }
 
+#[inline(always)]
 fn address_of(kind: u8, number: u16) -> Option<Option<Address>>
     ensures active { IfSome result (λ own. is_active own ≡ true) }
     ensures numbers { IfSome result (λ own. (kind ≡ own_kind own) × (number ≡ own_number own)) }
@@ -211,6 +217,7 @@ fn address_of(kind: u8, number: u16) -> Option<Option<Address>>
     }
 }
 
+#[inline(always)]
 fn short(number: u16) -> Option<Address>
     ensures numbers { IfSome result (λ own. (address_kind own ≡ 1) × (address_number own ≡ number)) }
     ensures found { (own : ShortAddress) → number ≡ own.number → result ≡ Some (Address.Short own) }
@@ -221,6 +228,7 @@ fn short(number: u16) -> Option<Address>
     Address::short(number as u8).ok()
 }
 
+#[inline(always)]
 fn long(number: u16) -> Option<Address>
     ensures numbers { IfSome result (λ own. (address_kind own ≡ 2) × (address_number own ≡ number)) }
     ensures found { (own : LongAddress) → number ≡ own.number → result ≡ Some (Address.Long own) }
@@ -242,7 +250,7 @@ fn speed_of(mode: u8, step: u8) -> Option<Speed>
     }
 }
 
-fn bits_of(words: &[u64; 2]) -> u128
+pub(crate) fn bits_of(words: &[u64; 2]) -> u128
     ensures found { (bits : ℕ) → words.now ≡ words_of bits → result ≡ bits }
     ensures words { words.now ≡ words_of result }
 {
@@ -268,5 +276,115 @@ fn read_pending(numbers: &DccFrame, pending: &mut Option<Packet>) -> bool
             numbers.is(&DccFrame::of(frame.bytes()))
         }
         Err(_) => false,
+    }
+}
+
+/// Returns true if a decoder with the address in the fields can have the registers in the fields.
+/// The function does not check the address.
+#[inline(always)]
+pub(crate) fn are_possible(numbers: &DccLocoRegisters) -> bool
+    ensures found { (state : LocoState) → is_state state ≡ true → numbers.now ≡ register_numbers (registers_in state)
+        → result ≡ true }
+    ensures possible { result ≡ true → (own : Option Address) → HasAddress numbers.now own
+        → (registers : LocoRegisters) × ((cvs : List ℕ) → is_state (with_cvs registers cvs) ≡ true)
+        × (numbers.now ≡ register_numbers registers) }
+{
+    if !has_pending(numbers) {
+        return false;
+    }
+    are_possible_with_pending(numbers)
+}
+
+/// Returns true if a decoder with the address and the pending write in the fields can have the
+/// other registers in the fields. The function does not check the address and the pending write.
+#[inline(always)]
+pub(crate) fn are_possible_with_pending(numbers: &DccLocoRegisters) -> bool
+    ensures found { (state : LocoState) → is_state state ≡ true → numbers.now ≡ register_numbers (registers_in state)
+        → result ≡ true }
+    ensures possible { result ≡ true → (own : Option Address) (pending : Option Packet) → HasAddress numbers.now own
+        → is_pending_for own pending ≡ true → numbers.now.pending ≡ pending_numbers pending
+        → (registers : LocoRegisters) × ((cvs : List ℕ) → is_state (with_cvs registers cvs) ≡ true)
+        × (numbers.now ≡ register_numbers registers) }
+{
+    let functions = bits_of(&numbers.functions);
+    let states = bits_of(&numbers.states);
+    has_speed(numbers.speed_mode, numbers.step) & (functions >> 69 == 0) & (states % 2 == 0)
+}
+
+/// Returns true if the kind and the step of a speed are those of a speed that a decoder can have.
+#[inline(always)]
+fn has_speed(mode: u8, step: u8) -> bool
+    ensures found { (speed : Speed) → is_speed_in_range speed ≡ true → mode ≡ speed_mode speed
+        → step ≡ speed_step speed → result ≡ true }
+    ensures speed { result ≡ true → (speed : Speed) × (is_speed_in_range speed ≡ true) × (mode ≡ speed_mode speed)
+        × (step ≡ speed_step speed) }
+{
+    if mode <= 1 {
+        return step == 0;
+    }
+    ((mode == 14) | (mode == 28) | (mode == 126)) & (1 <= step) & (step <= mode)
+}
+
+/// Returns true if a decoder with the address in the fields can have the pending write in the
+/// fields. The function does not check the address.
+#[inline(always)]
+fn has_pending(numbers: &DccLocoRegisters) -> bool
+    ensures found { (own : Option Address) (packet : Option Packet) → HasAddress numbers.now own
+        → is_pending_for own packet ≡ true → numbers.now.pending ≡ pending_numbers packet → result ≡ true }
+    ensures pending { result ≡ true → (own : Option Address) → HasAddress numbers.now own
+        → (packet : Option Packet) × (is_pending_for own packet ≡ true)
+        × (numbers.now.pending ≡ pending_numbers packet) }
+{
+    if numbers.pending.len == 0 {
+        return numbers.pending.is_none();
+    }
+    has_pending_write(numbers)
+}
+
+/// Returns true if a decoder with the address in the fields can have the pending write in the
+/// fields, which must be a write. The function does not check the address.
+// not inlined, since most calls find no pending write
+#[inline(never)]
+fn has_pending_write(numbers: &DccLocoRegisters) -> bool
+    ensures found { (own : Option Address) (packet : Packet) → HasAddress numbers.now own
+        → is_pending_for own (Some packet) ≡ true → numbers.now.pending ≡ pending_numbers (Some packet)
+        → result ≡ true }
+    ensures pending { result ≡ true → (own : Option Address) → HasAddress numbers.now own
+        → (packet : Packet) × (is_pending_for own (Some packet) ≡ true)
+        × (numbers.now.pending ≡ pending_numbers (Some packet)) }
+{
+    match own_address(numbers) {
+        Ok(own) => is_write_for(&own, &numbers.pending),
+        Err(_) => false,
+    }
+}
+
+/// Returns true if the struct has a frame that writes a CV of a decoder with the address `own`.
+fn is_write_for(own: &Option<Address>, pending: &DccFrame) -> bool
+    ensures found { (packet : Packet) → is_pending_for own.now (Some packet) ≡ true
+        → pending.now ≡ pending_numbers (Some packet) → result ≡ true }
+    ensures pending { result ≡ true → (packet : Packet) × (is_pending_for own.now (Some packet) ≡ true)
+        × (pending.now ≡ pending_numbers (Some packet)) }
+{
+    let bytes = pending.as_slice();
+    match Frame::check(bytes) {
+        Ok(()) => {
+            each_frame_is_a_packet(bytes);
+            loco_hears_frame(own, bytes) & is_write(bytes) & pending.is(&DccFrame::of_frame(bytes))
+        }
+        Err(_) => false,
+    }
+}
+
+/// Returns true if the packet of the frame is a write of a CV that is no broadcast.
+#[inline(always)]
+fn is_write(frame: &[u8]) -> bool
+    requires { IsFrame frame.now }
+    ensures own { (packet : Packet) → spelling packet ≡ frame.now → result ≡ is_own_write_of packet }
+    ensures byte { (packet : Packet) → spelling packet ≡ frame.now → is_byte_write packet ≡ true }
+{
+    match read_loco(&frame[..frame.len() - 1]) {
+        Some((to, what)) => is_own_write(&Packet::Loco { to, what }),
+        None => false,
     }
 }

@@ -18,6 +18,11 @@ show_in_hex : read_of (codes "words") (codes "dcc" ∷ codes "show" ∷ []) ≡ 
 unfolding clap_on_literals
 show_in_hex = refl
 
+show_in_plain_words : read_of (codes "plain") (codes "dcc" ∷ codes "show" ∷ codes "--plain" ∷ []) ≡ Some
+    (codes "show", Some (codes "true"))
+unfolding clap_on_literals
+show_in_plain_words = refl
+
 lost_in_words : read_of (codes "words") (codes "dcc" ∷ codes "lost" ∷ codes "--words" ∷ []) ≡ Some
     (codes "lost", Some (codes "true"))
 unfolding clap_on_literals

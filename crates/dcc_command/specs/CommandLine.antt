@@ -17,6 +17,12 @@ abbrev pub who_rule : Rule
 who_rule =
     record (new_rule (codes "who")) { long = Some (codes "who"); required = true; action = Some Set; value_names = 1 }
 
+-- the rule of the option `--spikes US`, with US from 1 to 25
+abbrev pub spikes_rule : Rule
+spikes_rule =
+    record (new_rule (codes "spikes"))
+    { long = Some (codes "spikes"); action = Some Set; parser = Some (values.Signed (pos 1) (pos 25)); value_names = 1 }
+
 -- the rule of the required option `--cv N`, with N from 1 to 1024
 abbrev pub cv_rule : Rule
 cv_rule =
@@ -24,10 +30,10 @@ cv_rule =
     { long = Some (codes "cv"); required = true; action = Some Set; parser = Some (values.Signed (pos 1) (pos 1024)) }
 
 abbrev pub show_app : App
-show_app = with_rule (new_app (codes "show")) (flag_rule (codes "words"))
+show_app = with_rule (with_rule (new_app (codes "show")) (flag_rule (codes "words"))) (flag_rule (codes "plain"))
 
 abbrev pub lost_app : App
-lost_app = with_rule (new_app (codes "lost")) (flag_rule (codes "words"))
+lost_app = with_rule (with_rule (new_app (codes "lost")) (flag_rule (codes "words"))) spikes_rule
 
 -- the subcommand `encode` with its three flags
 abbrev pub encode_flags : App

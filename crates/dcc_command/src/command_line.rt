@@ -4,7 +4,8 @@ ghost use Rattle.clap.specs.Words.{app_of, rule_of};
 ghost use Rattle.clap.specs.declared.builder.command.Command.TheViews.{out-Command as fields_of};
 ghost use Rattle.dcc_command.specs.CommandLine.{cv_rule, dcc_app, encode_app, encode_flags, flag_rule, readcv_app};
 ghost use Rattle.dcc_command.specs.CommandLine.{lost_app, run_app};
-ghost use Rattle.dcc_command.specs.CommandLine.{same_app, show_app, size_rule, timing_app, top_app, what_app, who_rule};
+ghost use Rattle.dcc_command.specs.CommandLine.{same_app, show_app, size_rule, spikes_rule, timing_app, top_app};
+ghost use Rattle.dcc_command.specs.CommandLine.{what_app, who_rule};
 
 use crate::help_texts;
 use clap::{Arg, ArgAction, Command, value_parser};
@@ -31,7 +32,7 @@ fn top<'a>(alloc: Global) -> Command<'a>
 {
     Command::new(alloc, "dcc")
         .about("Digital Command Control: captures, packets and decoders")
-        .version("0.1.0")
+        .version("0.2.0")
         .subcommand_required(true)
         .disable_help_subcommand(true)
 }
@@ -43,7 +44,12 @@ fn show<'a>(alloc: Global) -> Result<Command<'a>, AllocError>
     Command::new(alloc, "show")
         .about("Lists the packets and the rejected packets of a capture")
         .after_help(help_texts::SHOW)
-        .arg(flag(alloc, "words", "Write packets as packet lines, not in hex"))
+        .arg(flag(alloc, "words", "Write packets as packet lines, not in hex"))?
+        .arg(flag(
+            alloc,
+            "plain",
+            "Write packets in plain words: speed steps, functions, turnouts",
+        ))
 }
 
 fn lost<'a>(alloc: Global) -> Result<Command<'a>, AllocError>
@@ -53,7 +59,8 @@ fn lost<'a>(alloc: Global) -> Result<Command<'a>, AllocError>
     Command::new(alloc, "lost")
         .about("Lists the packets of a capture that a decoder does not hear, with the causes")
         .after_help(help_texts::LOST)
-        .arg(flag(alloc, "words", "Write packets as packet lines, not in hex"))
+        .arg(flag(alloc, "words", "Write packets as packet lines, not in hex"))?
+        .arg(spikes(alloc))
 }
 
 /// Returns the subcommand `encode` with its flags.
@@ -172,6 +179,19 @@ fn size<'a>(alloc: Global, name: &'a str, help: &'a str) -> Arg<'a>
         .long(name)
         .value_parser(value_parser!(u8))
         .help(help)
+}
+
+/// Returns the option `--spikes`, which is the duration below which a half-bit is a spike.
+fn spikes<'a>(alloc: Global) -> Arg<'a>
+    ensures rule { rule_of result ≡ spikes_rule }
+    ensures local { result.global ≡ false }
+{
+    Arg::new(alloc, "spikes")
+        .long("spikes")
+        .value_name("US")
+        .action(ArgAction::Set)
+        .value_parser(value_parser!(u8).range(1..=25))
+        .help("Join half-bits shorter than US microseconds, 1 to 25, with their neighbours")
 }
 
 /// Returns the option `--who`, which names the decoder for which captures are compared.

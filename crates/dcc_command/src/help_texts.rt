@@ -7,7 +7,8 @@ It reads a capture from standard input: durations of half-bits in microseconds, 
 runs such as 58*28, with # before a comment. tools/to-capture makes a capture of a
 VCD or CSV file.
 
-  dcc show --words < capture.txt
+  dcc show --words < capture.txt      84 loco s3 speed28 f 20
+  dcc show --plain < capture.txt      84 locomotive 3: step 17 of 28, forward
   echo '58*28 100*2 58*16 100*20 58*18' | dcc show
 
 A line has the number of the last half-bit, and the packet or its error:
@@ -26,6 +27,7 @@ It reads a capture from standard input, as `dcc show` does, and writes a line fo
 packet that was sent but that no decoder hears:
 
   dcc lost --words < capture.txt
+  dcc lost --spikes 5 < capture.txt
   echo '58*16 100*14 58*4 100*4 58*4 100*6 58*2 100*6 58*4 100*8 58*4' | dcc lost
 
 A line has the number of the last half-bit of the packet, the packet, and the causes:
@@ -34,7 +36,10 @@ A line has the number of the last half-bit of the packet, the packet, and the ca
   ones N from A to B       N half-bits of ones outside 52 to 64 microseconds
   zeros N from A to B      N half-bits of zeros outside 90 to 10000 microseconds
 No packet is listed both here and by `dcc show`. A packet with a rejection inside it
-can be listed here too. The program ends with U2, U4 or U7, as `dcc show` does.
+can be listed here too. With --spikes US, half-bits shorter than US microseconds are
+joined with their neighbours, and a packet can have one more cause:
+  spikes N                 N such half-bits in the packet and its preamble
+The program ends with U2, U4 or U7, as `dcc show` does.
 docs/FORMATS.md has the whole format.";
 
 /// The help text of the subcommand `encode`.

@@ -5,24 +5,27 @@ ghost use Rattle.dcc_io.specs.Held.{HoldsOrFails};
 
 use crate::stream::{Failed, Sink};
 use crate::writing::write_all;
-use arrayvec::ArrayVec;
 use std::marker::Model;
 
 /// A buffer of complete lines, with at most 4096 bytes, which the writer writes together.
 ///
 /// The owner writes all buffered lines before it reads more input. So a complete line never waits
 /// for input.
+// (an `ArrayVec` would overwrite the written bytes with zeros)
 #[derive(Drop)]
 pub struct HeldLines {
-    lines: ArrayVec<u8, 4096>,
+    bytes: [u8; 4096],
+    len: usize,
 }
 
 impl Model for HeldLines {
-    ghost use Rattle.std.specs.Prelude.{ℕ, List};
+    ghost use Rattle.std.specs.Prelude.{ℕ, List, take, ◌≤◌};
 
     ghost Value = { List ℕ };
 
-    ghost view = { λ h. h.lines.items };
+    ghost view = { λ h. take h.len h.bytes };
+
+    ghost invariant = { λ h. h.len ≤ 4096 };
 }
 
 impl HeldLines {
@@ -31,7 +34,8 @@ impl HeldLines {
         ensures { result ≡ [] }
     {
         HeldLines {
-            lines: ArrayVec::new(),
+            bytes: [0; 4096],
+            len: 0,
         }
     }
 
@@ -39,7 +43,7 @@ impl HeldLines {
     pub fn is_empty(&self) -> bool
         ensures { IsTrue result ↔ (self.now ≡ []) }
     {
-        self.lines.is_empty()
+        self.len == 0
     }
 
     /// Appends a line of at most 4096 bytes. If the buffer has no capacity for the line, the
@@ -51,10 +55,12 @@ impl HeldLines {
         ensures { HoldsOrFails (W.state writer.old) (self.old ++ line.now) result self.new
             (W.state writer.new) }
     {
-        if self.lines.remaining_capacity() < line.len() {
+        if 4096 - self.len < line.len() {
             self.write_out(writer)?;
         }
-        let _ = self.lines.try_extend_from_slice(line);
+        let end = self.len + line.len();
+        self.bytes[self.len..end].copy_from_slice(line);
+        self.len = end;
         Ok(())
     }
 
@@ -66,8 +72,8 @@ impl HeldLines {
         ensures writes { Writes (W.state writer.old) self.old result (W.state writer.new) }
         ensures empty { OnOk result (self.new ≡ []) }
     {
-        write_all(writer, self.lines.as_slice())?;
-        self.lines.clear();
+        write_all(writer, &self.bytes[..self.len])?;
+        self.len = 0;
         Ok(())
     }
 }

@@ -7,3 +7,8 @@ pub mod TimingTextLemmas
 pub mod LostCallLemmas
 pub mod LostTextLemmas
 pub mod WorkedExamples
+pub mod SpikedCallLemmas
+pub mod SpikedTextLemmas
+pub mod PlainFunctionLemmas
+pub mod PlainCallLemmas
+pub mod PlainLaws

@@ -9,7 +9,6 @@ use Rattle.dcc_order.proofs.TrackLemmas.{AllZip-start}
 use Rattle.dcc_wire.specs.Framing.{StandsFor}
 use Rattle.dcc_wire.specs.declared.framer.Framer.{Framer}
 use Rattle.dcc_io.specs.declared.fault.KeptFault.{KeptFault}
-use Rattle.dcc_io.specs.declared.fault.ToolFault.TheVariants as told
 use Rattle.dcc_io.specs.Calls.{ReadsTo}
 use Rattle.dcc_capture.specs.Capture.{IsOfCapture, CaptureLinesAt}
 use Rattle.dcc_io.specs.Faults.{as_tool_fault}

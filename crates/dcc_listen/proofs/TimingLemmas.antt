@@ -1,6 +1,6 @@
 -- How a capture is measured.
-use Rattle.std.proofs.Common.{◌≡◌, ℕ, ◌+◌, ◌^◌, ◌<◌, List, [], ◌++◌, length, replicate, None, Some, Option, Ok, Err}
-use Rattle.std.proofs.Common.{IfSome}
+use Rattle.std.proofs.Common.{◌≡◌, ℕ, ◌+◌, ◌^◌, ◌<◌, ◌≤◌, List, [], ◌++◌, length, replicate, None, Some, Option}
+use Rattle.std.proofs.Common.{IfSome, Ok, Err}
 use Rattle.std.proofs.Common.{subst, ◌∙◌, arith}
 use Rattle.std.specs.Io.KnownBytes.{Appends}
 use Rattle.std.proofs.lemmas.List.{length-replicate}
@@ -18,48 +18,52 @@ use Rattle.dcc_capture.specs.Capture.{captures, capture_in, GaveHalves, AnswersR
 use Rattle.dcc_capture.proofs.CaptureLemmas.{CaptureLinesAt-behind}
 use Rattle.dcc_timing.specs.declared.timings.Timings.{Timings}
 use Rattle.dcc_timing.specs.Measures.{Measures}
-use Rattle.dcc_listen.specs.Timed.{MeasuresCapture, StopsTiming, Times}
+use Rattle.dcc_lost.specs.declared.figures.LostFigures.{LostFigures}
+use Rattle.dcc_lost.specs.MeasuresLost.{MeasuresLost}
+use Rattle.dcc_listen.specs.Timed.{MeasuresAll, StopsTiming, Times}
 use Rattle.dcc_listen.specs.TimingText.{timing_text}
 use Rattle.dcc_capture.proofs.LinesLemmas.{GaveHalves-none, GaveHalves-append, stops_at_run_fault}
 
--- so far these halves were read, and measured
-pub record Measuring (start now : InputState) (timings : Timings) : Type 0 where
+-- so far these halves were read, and this holds of them
+pub record Measuring (start now : InputState) (fact : List ℕ → Type 0) : Type 0 where
   pub halves : List ℕ
   pub gave : GaveHalves start halves now
-  pub measures : Measures timings halves
+  pub measures : fact halves
 
-pub measuring_none : (start : InputState) (timings : Timings) → start.fault ≡ None → Measures timings []
-    → Measuring start start timings
-measuring_none start timings fault measures =
+pub measuring_none : (start : InputState) (fact : List ℕ → Type 0) → start.fault ≡ None → fact []
+    → Measuring start start fact
+measuring_none start fact fault measures =
     record { halves = []; gave = GaveHalves-none start fault; measures = measures }
 
 -- there is room for one more run
-pub measuring_room : (start now new : InputState) (timings : Timings) (run : Run) (most : ℕ) → most ≡ start.halves
-    → most < 2 ^ 32 → Measuring start now timings → GaveHalves now (replicate run.n run.us) new
-    → timings.halves + run.n < 2 ^ 32
-measuring_room start now new timings run most is small so_far gave =
+pub measuring_room : (start now new : InputState) (fact : List ℕ → Type 0) (counted : ℕ) (run : Run) (most : ℕ)
+    → most ≡ start.halves → most < 2 ^ 32 → ((halves : List ℕ) → fact halves → counted ≤ length halves)
+    → Measuring start now fact → GaveHalves now (replicate run.n run.us) new
+    → counted + run.n < 2 ^ 32
+measuring_room start now new fact counted run most is small few so_far gave =
     let taken = so_far.gave.left in
     let more = rw (length-replicate run.n run.us) at gave.left in
-    omega (arith, is, small, taken, more, so_far.measures.count)
+    omega (arith, is, small, taken, more, few so_far.halves so_far.measures)
 
-pub measuring_more : (start now new : InputState) (timings next : Timings) (run : Run)
+pub measuring_more : (start now new : InputState) (fact next : List ℕ → Type 0) (run : Run)
     → GaveHalves now (replicate run.n run.us) new
-    → ((halves : List ℕ) → Measures timings halves → Measures next (halves ++ replicate run.n run.us))
-    → Measuring start now timings → Measuring start new next
-measuring_more start now new timings next run gave takes so_far = record {
+    → ((halves : List ℕ) → fact halves → next (halves ++ replicate run.n run.us))
+    → Measuring start now fact → Measuring start new next
+measuring_more start now new fact next run gave takes so_far = record {
   halves = so_far.halves ++ replicate run.n run.us;
   gave = GaveHalves-append start now new so_far.halves (replicate run.n run.us) so_far.gave gave;
   measures = takes so_far.halves so_far.measures;
 }
 
-pub measured_all : (start now new : InputState) (timings : Timings) → Measuring start now timings
-    → AnswersRun now (Ok None) new → MeasuresCapture start (Ok timings) new
-measured_all start now new timings so_far answer =
+pub measured_all : (start now new : InputState) (fact : List ℕ → Type 0) → Measuring start now fact
+    → AnswersRun now (Ok None) new
+    → ReadsAll captures start new (λ halves. fact halves × (new.halves + length halves ≡ start.halves))
+measured_all start now new fact so_far answer =
     let all = answer.0 in
     record {
       items = (
         up_to_fault captures start now so_far.halves None
-            (λ halves. Measures timings halves × (new.halves + length halves ≡ start.halves))
+            (λ halves. fact halves × (new.halves + length halves ≡ start.halves))
             so_far.gave.items answer.2 (so_far.measures, omega (arith, so_far.gave.left, all.left)),
         all.items.failures ∙ so_far.gave.items.failures,
       );
@@ -69,9 +73,9 @@ measured_all start now new timings so_far answer =
       fault = all.items.fault;
     }
 
-pub measuring_stops : (start now new : InputState) (timings : Timings) (fault : KeptFault)
-    → Measuring start now timings → AnswersRun now (Err fault) new → StopsTiming start fault new
-measuring_stops start now new timings fault so_far answer =
+pub measuring_stops : (start now new : InputState) (fact : List ℕ → Type 0) (fault : KeptFault)
+    → Measuring start now fact → AnswersRun now (Err fault) new → StopsTiming start fault new
+measuring_stops start now new fact fault so_far answer =
     let stops = stops_at_run_fault now new fault answer in
     record {
       of_capture = stops.2;
@@ -94,29 +98,36 @@ reads_other old new fact other turn all =
     go None says = tt
     go (Some text) says = (says.0, turn (capture_in old text).said says.1)
 
+-- the statistics of these halves
+abbrev pub AllMeasured : Timings → LostFigures → List ℕ → Type 0
+AllMeasured timings lost halves = Measures timings halves × MeasuresLost lost halves
+
 -- the text of the figures was written
-pub timed : (old new : InputState) (before after : WriterState) (timings : Timings) (text bytes : List ℕ)
-    → MeasuresCapture old (Ok timings) new → ((halves : List ℕ) → Measures timings halves → text ≡ timing_text halves)
+pub timed : (old new : InputState) (before after : WriterState) (timings : Timings) (lost : LostFigures)
+    (text bytes : List ℕ) → MeasuresAll old (Ok (timings, lost)) new
+    → ((halves : List ℕ) → Measures timings halves → MeasuresLost lost halves → text ≡ timing_text halves)
     → bytes ≡ text → Writes before bytes (Ok tt) after → Times old before (Ok tt) new after
-timed old new before after timings text bytes measured spelled same wrote = (
-  reads_other old new (λ halves. Measures timings halves × (new.halves + length halves ≡ old.halves))
+timed old new before after timings lost text bytes measured spelled same wrote = (
+  reads_other old new (λ halves. AllMeasured timings lost halves × (new.halves + length halves ≡ old.halves))
       (λ halves. Appends before.contents after.contents (timing_text halves)
       × (new.halves + length halves ≡ old.halves))
       (λ halves is. (
-        subst (λ (l : List ℕ). Appends before.contents after.contents l) (same ∙ spelled halves is.0) wrote.0,
+        subst (λ (l : List ℕ). Appends before.contents after.contents l) (same ∙ spelled halves is.0.0 is.0.1)
+            wrote.0,
         is.1,
       )) measured,
   wrote.1,
 )
 
 -- a front of it was
-pub unwritten : (old new : InputState) (before after : WriterState) (timings : Timings) (text bytes : List ℕ)
-    (failed : Failed) → MeasuresCapture old (Ok timings) new
-    → ((halves : List ℕ) → Measures timings halves → text ≡ timing_text halves)
+pub unwritten : (old new : InputState) (before after : WriterState) (timings : Timings) (lost : LostFigures)
+    (text bytes : List ℕ) (failed : Failed) → MeasuresAll old (Ok (timings, lost)) new
+    → ((halves : List ℕ) → Measures timings halves → MeasuresLost lost halves → text ≡ timing_text halves)
     → bytes ≡ text → Writes before bytes (Err failed) after → Times old before (Err told.Write) new after
-unwritten old new before after timings text bytes failed measured spelled same wrote = (
-  reads_other old new (λ halves. Measures timings halves × (new.halves + length halves ≡ old.halves))
+unwritten old new before after timings lost text bytes failed measured spelled same wrote = (
+  reads_other old new (λ halves. AllMeasured timings lost halves × (new.halves + length halves ≡ old.halves))
       (λ halves. AppendsFront before after (timing_text halves))
-      (λ halves is. subst (λ (l : List ℕ). AppendsFront before after l) (same ∙ spelled halves is.0) wrote.0) measured,
+      (λ halves is. subst (λ (l : List ℕ). AppendsFront before after l) (same ∙ spelled halves is.0.0 is.0.1)
+      wrote.0) measured,
   wrote.1,
 )

@@ -4,3 +4,4 @@ pub mod Sides
 pub mod Pushing
 pub mod LostTexts
 pub mod LostRuns
+pub mod SpikedRuns

@@ -8,4 +8,8 @@ pub mod Taking
 pub mod TimingText
 pub mod Timed
 pub mod LostListing
+pub mod SpikedListing
+pub mod PlainWords
+pub mod PlainListing
+pub mod PlainLaws
 pub mod Inner

@@ -8,6 +8,8 @@ use Rattle.dcc_io.specs.InputState.{InputState}
 use Rattle.dcc_io.specs.WriterState.{WriterState}
 use Rattle.dcc_io.specs.WrittenBytes.{AppendsFront}
 use Rattle.dcc_capture.specs.Capture.{captures, IsOfCapture, CaptureLinesAt}
+use Rattle.dcc_lost.specs.declared.figures.LostFigures.{LostFigures}
+use Rattle.dcc_lost.specs.MeasuresLost.{MeasuresLost}
 use Rattle.dcc_timing.specs.declared.timings.Timings.{Timings}
 use Rattle.dcc_timing.specs.Measures.{Measures}
 use Rattle.dcc_listen.specs.TimingText.{timing_text}
@@ -24,6 +26,14 @@ abbrev pub MeasuresCapture : InputState → Result Timings KeptFault → InputSt
 MeasuresCapture old (Ok timings) new =
     ReadsAll captures old new (λ halves. Measures timings halves × (new.halves + length halves ≡ old.halves))
 MeasuresCapture old (Err fault) new = StopsTiming old fault new
+
+-- if the result is Ok, the whole capture was read, and the result has the two parts of its
+-- statistics. If the result is an error, the capture was read up to the error.
+abbrev pub MeasuresAll : InputState → Result (Timings × LostFigures) KeptFault → InputState → Type 0
+MeasuresAll old (Ok (timings, lost)) new =
+    ReadsAll captures old new
+    (λ halves. (Measures timings halves × MeasuresLost lost halves) × (new.halves + length halves ≡ old.halves))
+MeasuresAll old (Err fault) new = StopsTiming old fault new
 
 -- If the result of `timing` is Ok, the whole capture was read, and then the text of its statistics
 -- was written. After an error of the capture, nothing was written. After a failed write, a prefix

@@ -12,6 +12,7 @@ use Rattle.dcc_timing.specs.Classes.{is_below, is_half_of_one, is_between, is_ha
 use Rattle.dcc_timing.specs.Outcomes.{is_packet, is_refused}
 use Rattle.dcc_timing.specs.PacketBits.{packet_bits_in, difference, is_one_pair, is_zero_pair, bit_duration}
 use Rattle.dcc_timing.specs.Gaps.{longest_gap}
+use Rattle.dcc_lost.specs.Preambles.{lost_count, shortest_preamble}
 
 -- the decimal digits of `number`, or the word `none` if there is no number
 abbrev pub number_or_none : Option ℕ → List ℕ
@@ -77,6 +78,8 @@ timing_text halves =
     figure_line (codes "halves") (codes " ") (Some (length halves))
     ++ figure_line (codes "time") (codes " ") (Some (sum halves))
     ++ outcome_lines (seen halves)
+    ++ figure_line (codes "lost") (codes " ") (Some (lost_count halves))
+    ++ figure_line (codes "preamble") (codes " least ") (shortest_preamble halves)
     ++ figure_line (codes "gap") (codes " most ") (longest_gap halves)
     ++ bit_lines halves (packet_bits_in halves)
     ++ other_lines halves

@@ -31,7 +31,7 @@ pub(crate) fn lost_line(half: u32, packet: &LostPacket, words: bool) -> LostLine
 }
 
 /// Appends the causes of a packet, with a comma and a space between every two causes.
-fn append_causes(line: &mut LostLine, half: u32, packet: &LostPacket)
+pub(crate) fn append_causes(line: &mut LostLine, half: u32, packet: &LostPacket)
     requires { array_vec_len line.old + 150 ≤ 256 }
     ensures items { line.new.items ≡ line.old.items ++ causes_text half packet.now }
     ensures len { array_vec_len line.new ≤ array_vec_len line.old + 150 }

@@ -2,11 +2,12 @@
 ghost use Rattle.std.specs.Prelude.{◌≡◌, None, IfSome};
 ghost use Rattle.dcc_io.specs.Faults.{as_tool_fault};
 ghost use Rattle.dcc_io.specs.InputState.{ReadHasFailure};
-ghost use Rattle.dcc_listen.specs.Timed.{MeasuresCapture, Times};
+ghost use Rattle.dcc_listen.specs.Timed.{MeasuresAll, MeasuresCapture, Times};
 
 use crate::timing_text::timing_text;
 use dcc_capture::next_run;
 use dcc_io::{Input, KeptFault, Sink, Source, ToolFault, write_all};
+use dcc_lost::LostFigures;
 use dcc_timing::Timings;
 
 /// Writes the statistics of a capture. Each line has a name, and then a number, two limits or the
@@ -31,11 +32,32 @@ pub fn timing<R: Source, W: Sink>(input: &mut Input<R>, writer: &mut W) -> Resul
     if let Some(fault) = input.fault() {
         return Err(ToolFault::from(fault));
     }
-    let timings = measure(input)?;
-    Ok(write_all(writer, timing_text(&timings).as_slice())?)
+    let (timings, lost) = measure_all(input)?;
+    Ok(write_all(writer, timing_text(&timings, &lost).as_slice())?)
 }
 
-/// Reads a capture to its end, and returns its statistics.
+/// Reads a capture to its end, and returns all its statistics.
+fn measure_all<R: Source>(input: &mut Input<R>) -> Result<(Timings, LostFigures), KeptFault>
+    requires { input.old.fault ≡ None }
+    ensures { MeasuresAll input.old result input.new }
+{
+    // the limit allows fewer than 2^32 half-bits
+    let most = input.halves_left();
+    let mut timings = Timings::new();
+    let mut lost = LostFigures::new();
+    'runs: loop {
+        match next_run(input)? {
+            Some(run) => {
+                timings.take(run.us, run.n);
+                lost.push_run(run.us, run.n);
+            }
+            None => return Ok((timings, lost)),
+        }
+    }
+}
+
+/// Reads a capture to its end, and returns the statistics of its half-bits and of the packets that
+/// are seen.
 pub fn measure<R: Source>(input: &mut Input<R>) -> Result<Timings, KeptFault>
     requires { input.old.fault ≡ None }
     ensures { MeasuresCapture input.old result input.new }

@@ -33,7 +33,7 @@ use Rattle.dcc_lost.specs.Lost.{frame_lost}
 use Rattle.dcc_lost.specs.Unused.{last_outcome, unused_after, unused_at_end}
 use Rattle.dcc_lost.specs.Causes.{is_off_one, is_off_zero, off_limits, ones_before_body, short_preamble, with_causes}
 use Rattle.dcc_lost.specs.Causes.{packet_lost}
-use Rattle.dcc_lost.specs.LostLaws.{EndsWithFrame, IsLost, LostPacketsHaveCauses}
+use Rattle.dcc_lost.specs.LostLaws.{EndsWithFrame, LostPacketsHaveCauses}
 use Rattle.dcc_lost.proofs.HeardLemmas.{last_outcome-push}
 use Rattle.dcc_lost.proofs.UsedLemmas.{unused_by_last}
 use Rattle.dcc_lost.proofs.LawLemmas.{length-body, ones_first, lost-is}
@@ -224,7 +224,7 @@ seen_at_end before (first ∷ more) us n frame packet hunts enough e same =
 
 -- what no cause means
 
-short_none : (ones unused : ℕ) (since : Option ℕ) → short_preamble ones unused since ≡ None → 20 ≤ min ones unused
+pub short_none : (ones unused : ℕ) (since : Option ℕ) → short_preamble ones unused since ≡ None → 20 ≤ min ones unused
 unfolding short_preamble
 short_none ones unused since e = elim (cases_lt (min ones unused) 20) [
   | inl few ↦ absurd (cc (rw (lt-ltb (min ones unused) 20 few) at e))
@@ -318,13 +318,14 @@ parts durations us frame ends =
       front = take-append-le k durations (us ∷ []) within_all;
     }
 
-no_cause : (durations : List ℕ) (us : ℕ) (frame : List ℕ) → IsLost durations us frame
+pub no_cause : (durations : List ℕ) (us : ℕ) (frame : List ℕ) → EndsWithFrame (durations ++ us ∷ []) frame
+    → seen (durations ++ us ∷ []) ≡ seen durations
     → (with_causes (durations ++ us ∷ []) frame).preamble ≡ None → (with_causes (durations ++ us ∷ []) frame).ones
     ≡ None
     → (with_causes (durations ++ us ∷ []) frame).zeros ≡ None → ⊥
 unfolding with_causes ones_before_body ones_at_end ones_before
-no_cause durations us frame is preamble one low =
-    let p = parts durations us frame is.ends in
+no_cause durations us frame ends unseen preamble one low =
+    let p = parts durations us frame ends in
     let long : List ℕ = durations ++ us ∷ [] in
     let size : ℕ = 18 * length frame + 2 in
     let front : List ℕ = take (length long - size) long in
@@ -359,8 +360,8 @@ no_cause durations us frame is preamble one low =
     let split : take (length front - 20) front ++ twenty ≡ front = take-append-drop (length front - 20) front in
     let enough = twenty_left (take (length front - 20) front) twenty unused.0 strict.0
     (ap rest split ∙ unused.1) (rw split unused.2) in
-    seen_at_end p.before p.most us unused.0 frame is.ends.frame_rule (ap rest (sym p.front) ∙ unused.1) enough strict.1
-    (rw p.all is.unseen)
+    seen_at_end p.before p.most us unused.0 frame ends.frame_rule (ap rest (sym p.front) ∙ unused.1) enough strict.1
+    (rw p.all unseen)
 
 pub cause_law : LostPacketsHaveCauses
 unfolding packet_lost
@@ -376,7 +377,8 @@ cause_law durations us packet e = elim (cases_Option (frame_lost durations us)) 
           | inl no_ones ↦ elim (cases_Option packet.zeros) [
             | inr some ↦ inr (inr (λ none. cc))
             | inl no_zeros ↦
-                absurd (no_cause durations us frame lost (ap (λ (l : LostPacket). l.preamble) is ∙ no_preamble)
+                absurd (no_cause durations us frame lost.ends lost.unseen (ap (λ (l : LostPacket). l.preamble) is
+                ∙ no_preamble)
                 (ap (λ (l : LostPacket). l.ones) is ∙ no_ones) (ap (λ (l : LostPacket). l.zeros) is ∙ no_zeros))
           ]
         ]

@@ -97,12 +97,12 @@ noted_all has_kind halves i off all e =
 
 -- ones at the end
 
-ones_at_end-one : (halves : List Half) (half : Half) → half ≡ One
+pub ones_at_end-one : (halves : List Half) (half : Half) → half ≡ One
     → ones_at_end (halves ++ half ∷ []) ≡ suc (ones_at_end halves)
 unfolding ones_at_end ones_before
 ones_at_end-one halves half e = rw (reverse-append, e)
 
-ones_at_end-other : (halves : List Half) (half : Half) → half ≢ One → ones_at_end (halves ++ half ∷ []) ≡ 0
+pub ones_at_end-other : (halves : List Half) (half : Half) → half ≢ One → ones_at_end (halves ++ half ∷ []) ≡ 0
 unfolding ones_at_end ones_before
 ones_at_end-other halves One ne = absurd (ne refl)
 ones_at_end-other halves Zero ne = rw reverse-append

@@ -1,33 +1,26 @@
 -- What a finder of lost packets has read, and the packet at its end.
-use Rattle.std.proofs.Common.{◌≡◌, ◌≢◌, ℕ, suc, ◌+◌, ◌-◌, ◌*◌, ◌<◌, ◌≤◌, List, [], ◌∷◌, ◌++◌, length, take, drop}
+use Rattle.std.proofs.Common.{◌≡◌, ℕ, suc, ◌+◌, ◌-◌, ◌*◌, ◌<◌, ◌≤◌, List, [], ◌∷◌, ◌++◌, length, take, drop}
 use Rattle.std.proofs.Common.{get_or, map}
-use Rattle.std.proofs.Common.{Option, Some, None, refl, sym, ap, ◌∙◌, arith, length-drop, length-take}
+use Rattle.std.proofs.Common.{Option, None, refl, sym, ap, ◌∙◌, arith, length-drop, length-take}
 use Rattle.std.proofs.Common.{append_assoc, append-nil}
 use Rattle.std.proofs.lemmas.List.{drop-take, get_or-drop}
 use Rattle.std.proofs.lemmas.List.{length-take-le}
-use Rattle.std.specs.Option.{option_map}
-use Rattle.dcc_wire.specs.declared.seen.Seen.{Seen}
-use Rattle.dcc_wire.specs.declared.seen.Seen.TheVariants.{Nothing}
-use Rattle.dcc_wire.specs.Framing.{seen, rest, rest_at, hunting, starts_below, outcomes_at, report_at, used_up}
+use Rattle.dcc_wire.specs.Framing.{seen, rest, rest_at, hunting, starts_below, outcomes_at, used_up}
 use Rattle.dcc_wire.specs.Framing.{ones_at_end}
 use Rattle.dcc_wire.specs.Framing.{ones_before}
 use Rattle.dcc_timing.specs.Numbers.{keep_last}
 use Rattle.dcc_timing.proofs.RecentLemmas.{keep_last_keep, keep_last_behind}
-use Rattle.dcc_lost.specs.declared.heard.Heard.{Heard}
+use Rattle.dcc_lost.specs.Finding.{HeardState}
 use Rattle.dcc_lost.specs.Unused.{Hears, unused_from, unused_at_end, unused_after, last_outcome}
 use Rattle.dcc_lost.specs.Finding.{HasRead}
-use Rattle.std.proofs.Common.{Bool, true, false, if◌then◌else◌}
+use Rattle.std.proofs.Common.{Bool, true, if◌then◌else◌}
 use Rattle.std.specs.List.{filter}
-use Rattle.dcc_wire.specs.Framing.{StandsFor}
 use Rattle.dcc_lost.specs.declared.causes.OffLimits.{OffLimits}
 use Rattle.dcc_lost.specs.declared.causes.ShortPreamble.{ShortPreamble}
-use Rattle.dcc_lost.specs.declared.causes.LostPacket.{LostPacket}
 use Rattle.dcc_lost.specs.Nearest.{nearest_class}
-use Rattle.dcc_wire.specs.Framing.{is_hunting}
 use Rattle.dcc_lost.specs.Lost.{longest_frame_at_end}
 use Rattle.dcc_lost.specs.Causes.{is_off_one, is_off_zero, off_limits, ones_before_body, short_preamble, with_causes}
-use Rattle.dcc_lost.specs.Causes.{packet_lost}
-use Rattle.dcc_lost.proofs.LostLemmas.{longest_recent, heard, found}
+use Rattle.dcc_lost.proofs.LostLemmas.{longest_recent}
 
 -- the numbers of unused half-bits
 
@@ -56,7 +49,7 @@ unused_from-at before (us ∷ durations) (suc i) within =
     unused_from-at (before ++ us ∷ []) durations i (omega arith)
     ∙ ap unused_at_end (append_assoc before (us ∷ []) (take i durations))
 
-unused_none : unused_at_end [] ≡ 0
+pub unused_none : unused_at_end [] ≡ 0
 unfolding unused_at_end unused_after last_outcome seen rest rest_at hunting starts_below outcomes_at used_up ones_at_end
     ones_before
 unused_none = refl
@@ -76,7 +69,7 @@ unused_before (us ∷ durations) body some =
 
 -- one more half-bit
 
-pub reads_more : (durations : List ℕ) (us : ℕ) (old new : Heard) (last free more freer : List ℕ) (unused : ℕ)
+pub reads_more : (durations : List ℕ) (us : ℕ) (old new : HeardState) (last free more freer : List ℕ) (unused : ℕ)
     → HasRead old last free durations
     → Hears new.framer new.unused new.since_refusal (durations ++ us ∷ [])
     → more ≡ keep_last 130 (last ++ us ∷ []) → freer ≡ keep_last 130 (free ++ unused ∷ [])
@@ -112,7 +105,7 @@ before_body durations body count is =
 
 -- the causes of a packet at the end
 
-causes_are : (durations frame : List ℕ) (decoder : Heard) (last free : List ℕ) (count ones unused : ℕ)
+causes_are : (durations frame : List ℕ) (decoder : HeardState) (last free : List ℕ) (count ones unused : ℕ)
     (short : Option ShortPreamble) (off_ones off_zeros : Option OffLimits) → HasRead decoder last free durations
     → length frame ≤ 6 → count ≡ length (keep_last (18 * length frame + 2 + 20) last) - (18 * length frame + 2)
     → ones ≡ ones_at_end (map nearest_class (take count (keep_last (18 * length frame + 2 + 20) last))) → ones ≤ 20
@@ -138,7 +131,7 @@ causes_are durations frame decoder last free count ones unused short off_ones of
     ∙ unused_before durations body (omega arith) in
     rw (shorts, one, zero, counted, left, read.heard.refused, ← before)
 
-pub causes_found : (durations frame bytes : List ℕ) (decoder : Heard) (last free window counted before : List ℕ)
+pub causes_found : (durations frame bytes : List ℕ) (decoder : HeardState) (last free window counted before : List ℕ)
     (count ones unused : ℕ) (since : Option ℕ) (short : Option ShortPreamble) (off_ones off_zeros : Option OffLimits)
     → HasRead decoder last free durations → length bytes ≤ 6 → bytes ≡ frame
     → window ≡ keep_last (18 * length bytes + 2 + 20) last → count ≡ length window - (18 * length bytes + 2)
@@ -161,41 +154,13 @@ causes_found durations frame bytes decoder last free window counted before count
 
 -- the packet of a list, if no body is unfinished
 
-pub unheard_none : (f : List ℕ → LostPacket) (hunts : Bool) (longest : Option (List ℕ)) → longest ≡ None
-    → None ≡ option_map f (if hunts then longest else None)
-unheard_none f true longest e = rw e
-unheard_none f false longest e = refl
-
-pub unheard_found : (f : List ℕ → LostPacket) (hunts : Bool) (longest : Option (List ℕ)) (packet : Option LostPacket)
-    → true ≡ hunts → packet ≡ option_map f longest → packet ≡ option_map f (if hunts then longest else None)
-unheard_found f hunts longest packet so is = rw (← so) is
-
-pub unheard_busy : (f : List ℕ → LostPacket) (hunts : Bool) (longest : Option (List ℕ)) → false ≡ hunts
-    → None ≡ option_map f (if hunts then longest else None)
-unheard_busy f hunts longest so = rw (← so)
+pub unheard_frame : (hunts : Bool) (longest : Option (List ℕ)) → hunts ≡ true
+    → (if hunts then longest else None) ≡ longest
+unheard_frame hunts longest so = rw so
 
 pub longest_is : (durations last : List ℕ) (longest : Option (List ℕ)) → last ≡ keep_last 130 durations
     → longest ≡ longest_frame_at_end last → longest ≡ longest_frame_at_end durations
 longest_is durations last longest is e = e ∙ ap longest_frame_at_end is ∙ longest_recent durations
-
--- the packet that is lost at a half-bit
-
-pub packet_none : (durations : List ℕ) (us : ℕ) (answer : Seen)
-    → seen (durations ++ us ∷ []) ≡ seen durations ++ report_at (length durations) answer → answer ≢ Nothing
-    → None ≡ packet_lost durations us
-unfolding packet_lost
-packet_none durations us answer sees something = rw (← heard durations us answer sees something)
-
-pub packet_found : (durations : List ℕ) (us : ℕ) (answer : Seen) (decoder : Heard) (packet : Option LostPacket)
-    → seen (durations ++ us ∷ []) ≡ seen durations ++ report_at (length durations) answer → answer ≡ Nothing
-    → StandsFor decoder.framer (durations ++ us ∷ [])
-    → packet ≡ option_map (with_causes (durations ++ us ∷ []))
-    (if is_hunting decoder.framer then longest_frame_at_end (durations ++ us ∷ []) else None)
-    → packet ≡ packet_lost durations us
-unfolding packet_lost
-packet_found durations us answer decoder packet sees nothing stands e =
-    e ∙ ap (option_map (with_causes (durations ++ us ∷ [])))
-    (found durations us answer decoder.framer sees nothing stands)
 
 pub few_before : (last window : List ℕ) (body count ones : ℕ) → window ≡ keep_last (body + 20) last
     → count ≡ length window - body → ones ≤ length (take count window) → ones ≤ 20

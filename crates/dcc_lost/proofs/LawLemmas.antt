@@ -224,9 +224,9 @@ pick at frame p = elim (cases_lt 5 p.n) [
       ]
 ]
 
-record IsLongest (durations frame : List ℕ) : Type 0 where
-  ends : EndsWithFrame durations frame
-  longest : (other : List ℕ) → EndsWithFrame durations other → length other ≤ length frame
+pub record IsLongest (durations frame : List ℕ) : Type 0 where
+  pub ends : EndsWithFrame durations frame
+  pub longest : (other : List ℕ) → EndsWithFrame durations other → length other ≤ length frame
 
 no_longer : (n : ℕ) (durations other : List ℕ) → ((m : ℕ) → n < m → m ≤ 6 → frame_at_end m durations ≡ None)
     → EndsWithFrame durations other → length other ≤ n
@@ -235,7 +235,7 @@ no_longer n durations other none ends = elim (cases_lt n (length other)) [
   | inl longer ↦ absurd (cc (none (length other) longer ends.frame_rule.most, at_end durations other ends))
 ]
 
-longest-is : (durations frame : List ℕ) → longest_frame_at_end durations ≡ Some frame → IsLongest durations frame
+pub longest-is : (durations frame : List ℕ) → longest_frame_at_end durations ≡ Some frame → IsLongest durations frame
 unfolding longest_frame_at_end
 longest-is durations frame e =
     let p = picked (λ n. frame_at_end n durations) frame e in
@@ -280,7 +280,7 @@ report_alike so_far place (Refused fault) e =
 both : (a b : Bool) → (a && b) ≡ true → (a ≡ true) × (b ≡ true)
 both a b e = grind arith
 
-hunting-open : (framer : Rest) → is_hunting framer ≡ true → (halves : List Half) → framer ≢ InBody halves
+pub hunting-open : (framer : Rest) → is_hunting framer ≡ true → (halves : List Half) → framer ≢ InBody halves
 hunting-open (Hunting ones) e halves same = cc
 hunting-open (InBody body) e halves same = cc
 
@@ -378,9 +378,8 @@ last_is_one durations us frame ends =
     ∙ ap (λ l. ends.before ++ l) (sym (append_assoc (replicate 8 One) end.0 (One ∷ [])))
     ∙ sym (append_assoc ends.before front (One ∷ [])))
 
-pub packet_other : (durations : List ℕ) (us : ℕ) → nearest_class us ≢ One → None ≡ packet_lost durations us
-unfolding packet_lost
-packet_other durations us other = elim (cases_Option (frame_lost durations us)) [
-  | inl none ↦ rw none
+pub frame_other : (durations : List ℕ) (us : ℕ) → nearest_class us ≢ One → None ≡ frame_lost durations us
+frame_other durations us other = elim (cases_Option (frame_lost durations us)) [
+  | inl none ↦ rw none refl
   | inr some ↦ absurd (other (last_is_one durations us some.0 (lost-is durations us some.0 some.1).ends))
 ]

@@ -12,4 +12,13 @@ pub mod StillLemmas
 pub mod CauseLaw
 pub mod CalmLemmas
 pub mod WorkedExamples
+pub mod SpikedExamples
 pub mod EndLemmas
+pub mod JoinedLemmas
+pub mod FoundLemmas
+pub mod UnusedBodyLaw
+pub mod SingleLemmas
+pub mod FoundCauseLaw
+pub mod PreambleLemmas
+pub mod FigureLemmas
+pub mod StillFigureLemmas

@@ -19,12 +19,12 @@ use Rattle.dcc_wire.specs.Framing.{Rest, Hunting, InBody, rest, seen, StandsFor,
 use Rattle.dcc_wire.specs.Half.{class_of}
 use Rattle.dcc_wire.specs.Outcomes.{outcome_of}
 use Rattle.dcc_wire.specs.Inner.Steps.{rest_after}
-use Rattle.dcc_wire.specs.Runs.{IsQuiet}
+use Rattle.dcc_wire.specs.Runs.{ones_after, IsQuiet}
 use Rattle.dcc_wire.proofs.FramingLemmas.{rest-push}
-use Rattle.dcc_wire.proofs.RunLemmas.{skips}
+use Rattle.dcc_wire.proofs.RunLemmas.{ones_after_one, skips}
 use Rattle.dcc_timing.specs.Numbers.{keep_last}
 use Rattle.dcc_timing.proofs.RecentLemmas.{keep_last_keep, keep_last_behind}
-use Rattle.dcc_lost.specs.declared.heard.Heard.{Heard}
+use Rattle.dcc_lost.specs.Finding.{HeardState}
 use Rattle.dcc_lost.specs.Nearest.{nearest_class}
 use Rattle.dcc_wire.specs.Framing.{is_hunting}
 use Rattle.dcc_lost.specs.Lost.{packet_of_length, frame_after_ones, frame_at_end, longest_frame_at_end, frame_lost}
@@ -33,7 +33,7 @@ use Rattle.dcc_lost.specs.Unused.{Hears, last_outcome, unused_after, since_refus
 use Rattle.dcc_lost.specs.Causes.{packet_lost, packets_lost, report_lost}
 use Rattle.dcc_lost.specs.Finding.{HasRead}
 use Rattle.dcc_lost.specs.Still.{IsStill}
-use Rattle.dcc_lost.proofs.FinderLemmas.{unused_from-push}
+use Rattle.dcc_lost.proofs.FinderLemmas.{unused_from-push, unused_before}
 use Rattle.dcc_lost.proofs.FrameLemmas.{no_packet}
 use Rattle.dcc_lost.proofs.UsedLemmas.{unused_by_last}
 use Rattle.dcc_lost.proofs.RunLemmas.{packets_lost-push}
@@ -63,8 +63,13 @@ keep_last_run k n us halves enough =
     ∙ ap (λ l. drop (n - k) l) (drop-append_seam halves (replicate n us)) ∙ drop-replicate (n - k) n us
     ∙ ap (λ m. replicate m us) left
 
+each_in : (n number k : ℕ) → k < n → get_or (replicate n number) k 0 ≡ number
+each_in zero number k within = absurd (omega arith)
+each_in (suc n) number zero within = refl
+each_in (suc n) number (suc k) within = each_in n number k (omega arith)
+
 -- more of the same number at the end
-more_alike : (xs : List ℕ) (n x : ℕ) → keep_last 130 xs ≡ replicate 130 x → keep_last 130 (xs ++ replicate n x)
+pub more_alike : (xs : List ℕ) (n x : ℕ) → keep_last 130 xs ≡ replicate 130 x → keep_last 130 (xs ++ replicate n x)
     ≡ replicate 130 x
 more_alike xs n x e =
     sym (keep_last_behind 130 xs (replicate n x)) ∙ ap (λ l. keep_last 130 (l ++ replicate n x)) e
@@ -76,14 +81,15 @@ record IsStopped (now : Rest) (half : Half) : Type 0 where
   ones : ℕ
   hunts : now ≡ Hunting ones
   quiet : IsQuiet ones half
+  none : half ≢ One → ones ≡ 0
 
 stopped : (ones : ℕ) (half : Half) (now : Rest) → now ≡ rest_after (Hunting ones) half → is_hunting now ≡ true
     → IsStopped now half
 unfolding rest_after
-stopped ones One now e hunts = record { ones = min 20 (ones + 1); hunts = e; quiet = tt }
-stopped ones Bad now e hunts = record { ones = 0; hunts = e; quiet = tt }
+stopped ones One now e hunts = record { ones = min 20 (ones + 1); hunts = e; quiet = tt; none = λ no. absurd (no refl) }
+stopped ones Bad now e hunts = record { ones = 0; hunts = e; quiet = tt; none = λ no. refl }
 stopped ones Zero now e hunts = elim (cases_lt ones 20) [
-  | inl few ↦ record { ones = 0; hunts = e ∙ rw (lt-leb 20 ones few); quiet = omega arith }
+  | inl few ↦ record { ones = 0; hunts = e ∙ rw (lt-leb 20 ones few); quiet = omega arith; none = λ no. refl }
   | inr many ↦ absurd (grind (arith, nat_tests))
 ]
 
@@ -154,7 +160,7 @@ below_more_halves : (count n : ℕ) (last : Option (ℕ × Seen)) → IfSome las
 below_more_halves count n None below = tt
 below_more_halves count n (Some outcome) below = omega (arith, below)
 
-pub hears_skip : (durations : List ℕ) (us n ones unused : ℕ) (old new : Rest) (since : Option ℕ) → unused ≡ 20
+hears_skip : (durations : List ℕ) (us n ones unused : ℕ) (old new : Rest) (since : Option ℕ) → unused ≡ 20
     → IfSome since (λ count. count ≡ 255) → Hears old unused since durations → rest durations ≡ Hunting ones
     → IsQuiet ones (class_of us)
     → StandsFor new (durations ++ replicate n us) → Hears new unused since (durations ++ replicate n us)
@@ -241,13 +247,18 @@ longest_none us durations e =
       end_none 3 us durations (omega arith) e,
     )
 
+frame_none : (durations : List ℕ) (us : ℕ) → keep_last 130 (durations ++ us ∷ []) ≡ replicate 130 us
+    → frame_lost durations us ≡ None
+unfolding frame_lost
+frame_none durations us e = elim (cases_Bool (is_unheard durations us)) [
+  | inl told ↦ rw (told, longest_none us (durations ++ us ∷ []) e) refl
+  | inr told ↦ rw told refl
+]
+
 lost_none : (durations : List ℕ) (us : ℕ) → keep_last 130 (durations ++ us ∷ []) ≡ replicate 130 us
     → packet_lost durations us ≡ None
-unfolding packet_lost frame_lost
-lost_none durations us e = elim (cases_Bool (is_unheard durations us)) [
-  | inl told ↦ rw (told, longest_none us (durations ++ us ∷ []) e)
-  | inr told ↦ rw told
-]
+unfolding packet_lost
+lost_none durations us e = rw (frame_none durations us e) refl
 
 run_lost_none : (durations : List ℕ) (us n : ℕ) → keep_last 130 durations ≡ replicate 130 us
     → packets_lost (durations ++ replicate n us) ≡ packets_lost durations
@@ -263,12 +274,12 @@ run_lost_none durations us (suc n) e =
 
 -- a finder that skips a run
 
-record IsStopping (decoder : Heard) (last free durations : List ℕ) (us : ℕ) : Type 0 where
+record IsStopping (decoder : HeardState) (last free durations : List ℕ) (us : ℕ) : Type 0 where
   halves : keep_last 130 durations ≡ replicate 130 us
   numbers : keep_last 130 (unused_from [] durations) ≡ replicate 130 20
   stop : IsStopped (rest durations) (class_of us)
 
-stopping : (decoder : Heard) (last free durations : List ℕ) (us : ℕ) → HasRead decoder last free durations
+stopping : (decoder : HeardState) (last free durations : List ℕ) (us : ℕ) → HasRead decoder last free durations
     → IsStill decoder last free us → IsStopping decoder last free durations us
 unfolding StandsFor
 stopping decoder last free durations us read still =
@@ -283,7 +294,7 @@ stopping decoder last free durations us read still =
       stop = still_stopped durations us halves numbers (ap is_hunting (sym read.heard.stands) ∙ still.hunts);
     }
 
-pub skip_reads : (old new : Heard) (last free durations : List ℕ) (us n : ℕ) → HasRead old last free durations
+skip_reads : (old new : HeardState) (last free durations : List ℕ) (us n : ℕ) → HasRead old last free durations
     → IsStill old last free us
     → ((ones : ℕ) → rest durations ≡ Hunting ones → IsQuiet ones (class_of us)
     → Hears new.framer new.unused new.since_refusal (durations ++ replicate n us))
@@ -301,17 +312,72 @@ skip_reads old new last free durations us n read still hears =
           (λ i. unused_stays durations us i s.stop.ones old.framer old.since_refusal was s.stop.hunts s.stop.quiet)));
     }
 
-pub skip_quiet : (old : Heard) (last free durations : List ℕ) (us n : ℕ) → HasRead old last free durations
+-- twenty half-bits of ones, of which no outcome uses the half-bits before them
+twenty_of : (durations : List ℕ) (us : ℕ) → keep_last 130 durations ≡ replicate 130 us
+    → keep_last 130 (unused_from [] durations) ≡ replicate 130 20 → class_of us ≡ One → rest durations ≡ Hunting 20
+twenty_of durations us all unused one =
+    let before : List ℕ = take (length durations - 20) durations in
+    let last : keep_last 20 durations ≡ replicate 20 us =
+    sym (keep_last_keep 20 130 durations (omega arith)) ∙ ap (keep_last 20) all
+    ∙ keep_last_run 20 130 us [] (omega arith)
+    in
+    let split : durations ≡ before ++ replicate 20 us =
+    sym (take-append-drop (length durations - 20) durations) ∙ ap (λ l. before ++ l) last in
+    let numbers : keep_last 20 (unused_from [] durations) ≡ replicate 20 20 =
+    sym (keep_last_keep 20 130 (unused_from [] durations) (omega arith)) ∙ ap (keep_last 20) unused
+    ∙ keep_last_run 20 130 20 [] (omega arith) in
+    let free : unused_at_end before ≡ 20 =
+    sym (unused_before durations 20 (omega arith)) ∙ ap (λ l. get_or l 0 0) numbers ∙ each_in 20 20 0 (omega arith) in
+    let was = hunting-is (rest before) (hunting-unused before free) in
+    let count : ones_after was.0 (class_of us) 20 ≡ 20 =
+    ap (λ h. ones_after was.0 h 20) one ∙ ones_after_one was.0 20 (omega arith) ∙ omega arith in
+    ap rest split ∙ (skips 20 us before was.0 (rw one tt) was.1).open_part ∙ ap Hunting count
+
+stays_same : (ones : ℕ) (half : Half) (n : ℕ) → (half ≡ One → ones ≡ 20) → (half ≢ One → ones ≡ 0)
+    → ones_after ones half n ≡ ones
+unfolding ones_after
+stays_same ones half zero most none = refl
+stays_same ones One (suc n) most none = omega (arith, most refl)
+stays_same ones Zero (suc n) most none = sym (none (λ e. cc))
+stays_same ones Bad (suc n) most none = sym (none (λ e. cc))
+
+hunting-same : (a b : ℕ) → Hunting a ≡ Hunting b → a ≡ b
+hunting-same a b e = cc
+
+-- the finder itself is what it is after more of them
+pub still_reads : (old : HeardState) (last free durations : List ℕ) (us n : ℕ) → HasRead old last free durations
+    → IsStill old last free us → HasRead old last free (durations ++ replicate n us)
+unfolding StandsFor
+still_reads old last free durations us n read still =
+    let s = stopping old last free durations us read still in
+    let same : ones_after s.stop.ones (class_of us) n ≡ s.stop.ones =
+    stays_same s.stop.ones (class_of us) n
+    (λ one. hunting-same s.stop.ones 20 (sym s.stop.hunts ∙ twenty_of durations us s.halves s.numbers one))
+    s.stop.none in
+    let stands : old.framer ≡ rest (durations ++ replicate n us) =
+    read.heard.stands ∙ s.stop.hunts ∙ ap Hunting (sym same)
+    ∙ sym (skips n us durations s.stop.ones s.stop.quiet s.stop.hunts).open_part in
+    skip_reads old old last free durations us n read still
+    (λ ones hunts quiet.
+    hears_skip durations us n ones old.unused old.framer old.framer old.since_refusal still.now_unused still.since
+    read.heard hunts quiet stands)
+
+pub still_quiet : (old : HeardState) (last free durations : List ℕ) (us n : ℕ) → HasRead old last free durations
     → IsStill old last free us → packets_lost (durations ++ replicate n us) ≡ packets_lost durations
-skip_quiet old last free durations us n read still =
+still_quiet old last free durations us n read still =
     run_lost_none durations us n (stopping old last free durations us read still).halves
 
--- equal numbers
+-- one more of them has no outcome and loses no packet
+pub still_nothing : (old : HeardState) (last free durations : List ℕ) (us : ℕ) → HasRead old last free durations
+    → IsStill old last free us
+    → (seen (durations ++ us ∷ []) ≡ seen durations) × (frame_lost durations us ≡ None)
+still_nothing old last free durations us read still =
+    let s = stopping old last free durations us read still in (
+      (skips 1 us durations s.stop.ones s.stop.quiet s.stop.hunts).outcomes,
+      frame_none durations us (more_alike durations 1 us s.halves),
+    )
 
-each_in : (n number k : ℕ) → k < n → get_or (replicate n number) k 0 ≡ number
-each_in zero number k within = absurd (omega arith)
-each_in (suc n) number zero within = refl
-each_in (suc n) number (suc k) within = each_in n number k (omega arith)
+-- equal numbers
 
 pub alike_each : (numbers : List ℕ) (n number : ℕ) → numbers ≡ replicate n number
     → EachIndex numbers (λ k. get_or numbers k 0 ≡ number)

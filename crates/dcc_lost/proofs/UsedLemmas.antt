@@ -12,6 +12,7 @@ use Rattle.dcc_wire.proofs.ByteBits.{cases_Option, some_same}
 use Rattle.dcc_wire.proofs.OutcomeLemmas.{outcome_of-long, ones_left_le}
 use Rattle.dcc_wire.specs.Framing.{is_hunting}
 use Rattle.dcc_lost.specs.Unused.{last_outcome, unused_after, unused_at_end, Hears}
+use Rattle.dcc_lost.specs.Preambles.{all_unused_at_end}
 use Rattle.dcc_lost.proofs.HeardLemmas.{last_outcome-push}
 
 by_halves-left : (n : ℕ) (tail : List Half) (p : ℕ × Seen) → by_halves n tail ≡ Some p → ones_left p.1 ≤ p.0
@@ -58,3 +59,29 @@ pub unused_is : (durations : List ℕ) (framer : Rest) (unused : ℕ) (since : O
 unfolding StandsFor
 unused_is durations framer unused since hunts hears is =
     rw (is, hears.stands, hears.left_unused) (sym (unused_by_last durations))
+
+-- the same without a limit
+
+abbrev pub all_unused_left : Rest → ℕ → Option (ℕ × Seen) → ℕ
+all_unused_left framer count last = if is_hunting framer then unused_after count last else 0
+
+all_by_starts : (halves : List Half) (places : List ℕ)
+    → length halves - used_up halves places
+    ≡ all_unused_left (rest_at halves places) (length halves) (last_outcome (outcomes_at halves places))
+unfolding used_up halves_used rest_at hunting outcomes_at outcome_at last_outcome unused_after
+all_by_starts halves [] = omega arith
+all_by_starts halves (start ∷ earlier) = elim (cases_Option (outcome_of (drop start halves))) [
+  | inl none ↦ rw none (omega (arith, length-drop start halves))
+  | inr some ↦
+      let long = outcome_of-long (drop start halves) some.0 some.1 in
+      let left = left_within (drop start halves) some.0 some.1 in
+      rw (some.1, last_outcome-push) (omega (arith, long, left, length-drop start halves))
+]
+
+pub all_unused_by_last : (durations : List ℕ)
+    → all_unused_at_end durations
+    ≡ all_unused_left (rest durations) (length durations) (last_outcome (seen durations))
+unfolding all_unused_at_end rest seen
+all_unused_by_last durations =
+    let halves : List Half = map class_of durations in
+    rw (← length-map durations class_of) (all_by_starts halves (starts halves))

@@ -10,15 +10,20 @@ use Rattle.dcc_wire.specs.Outcomes.{outcome_of}
 use Rattle.dcc_lost.specs.declared.causes.OffLimits.{OffLimits}
 use Rattle.dcc_lost.specs.declared.causes.ShortPreamble.{ShortPreamble}
 use Rattle.dcc_lost.specs.declared.causes.LostPacket.{LostPacket}
+use Rattle.dcc_lost.specs.Joined.{join_next, joined, joining_of}
 use Rattle.dcc_lost.specs.Lost.{packet_of_length, frame_after_ones, frame_at_end, longest_frame_at_end, is_unheard}
 use Rattle.dcc_lost.specs.Lost.{frame_lost}
 use Rattle.dcc_lost.specs.Unused.{last_outcome, unused_after, since_refusal, unused_at_end}
 use Rattle.dcc_lost.specs.Causes.{off_limits, ones_before_body, short_preamble, with_causes, packet_lost, report_lost}
 use Rattle.dcc_lost.specs.Causes.{packets_lost_after, packets_lost}
+use Rattle.dcc_lost.specs.Preambles.{all_unused_at_end, lost_count, packets_seen_or_lost, preamble_at_end}
+use Rattle.dcc_lost.specs.Preambles.{shortest_preamble}
+use Rattle.dcc_timing.specs.Numbers.{least}
+use Rattle.dcc_timing.specs.PacketBits.{packets_in}
 
 -- half-bits with this duration of ones and this duration of zeros; a bad half-bit takes 5
 -- microseconds
-sent_with : ℕ → ℕ → List Half → List ℕ
+unfoldable pub sent_with : ℕ → ℕ → List Half → List ℕ
 sent_with one low [] = []
 sent_with one low (One ∷ halves) = one ∷ sent_with one low halves
 sent_with one low (Zero ∷ halves) = low ∷ sent_with one low halves
@@ -77,6 +82,32 @@ record Rows : Type 0 where
   -- a wrong error byte
   wrong_error_byte : packets_lost (packet_with 58 100 16 (3 ∷ 98 ∷ 96 ∷ [])) ≡ []
 
+-- half-bits shorter than 5 microseconds are spikes
+record JoinedRows : Type 0 where
+  two_after_a_spike : joined 5 (58 ∷ 3 ∷ 3 ∷ 3 ∷ 3 ∷ 58 ∷ []) ≡ (58 ∷ 3 ∷ 3 ∷ 3 ∷ 3 ∷ []) ∷ (58 ∷ []) ∷ []
+  the_half_after_a_spike : joined 5 (58 ∷ 58 ∷ 1 ∷ 57 ∷ 57 ∷ []) ≡ (58 ∷ []) ∷ (58 ∷ 1 ∷ 57 ∷ []) ∷ (57 ∷ []) ∷ []
+  the_first_half : joined 5 (3 ∷ 58 ∷ 58 ∷ []) ≡ (3 ∷ []) ∷ (58 ∷ []) ∷ (58 ∷ []) ∷ []
+
+record FigureRows : Type 0 where
+  -- a packet that is seen, after a preamble of 14 ones
+  healthy : shortest_preamble (packet_with 58 100 28 (3 ∷ 98 ∷ 97 ∷ [])) ≡ Some 28
+  healthy_lost : lost_count (packet_with 58 100 28 (3 ∷ 98 ∷ 97 ∷ [])) ≡ 0
+  -- a packet that is lost, after a preamble of 8 ones
+  preamble_of_16 : shortest_preamble (packet_with 58 100 16 (3 ∷ 98 ∷ 97 ∷ [])) ≡ Some 16
+  preamble_of_16_lost : lost_count (packet_with 58 100 16 (3 ∷ 98 ∷ 97 ∷ [])) ≡ 1
+  -- a packet that is lost because of its ones, after a preamble of 14 ones
+  ones_of_66 : shortest_preamble (packet_with 66 100 28 (3 ∷ 98 ∷ 97 ∷ [])) ≡ Some 28
+  -- a packet of which a spike uses the ones before it
+  spike_in_the_preamble : shortest_preamble
+      (replicate 20 58 ++ 100 ∷ replicate 12 58 ++ sent_with 58 100 (body (3 ∷ 98 ∷ 97 ∷ [])))
+      ≡ Some 11
+  -- a preamble that begins with the end bit of the packet before it
+  two_packets : shortest_preamble
+      (packet_with 58 100 28 (3 ∷ 98 ∷ 97 ∷ []) ++ packet_with 58 100 20 (3 ∷ 98 ∷ 97 ∷ []))
+      ≡ Some 22
+  -- no packets
+  ones_only : shortest_preamble (replicate 40 58) ≡ None
+
 rows : Rows
 unfolding sent_with packet_with loco_3 only between packets_lost packets_lost_after report_lost packet_lost with_causes
     short_preamble ones_before_body off_limits unused_at_end since_refusal unused_after last_outcome frame_lost
@@ -87,3 +118,17 @@ unfolding sent_with packet_with loco_3 only between packets_lost packets_lost_af
     by_bits
     by_halves ones_left body halves_of body_bits bits_of number_of
 rows = assumption
+
+joined_rows : JoinedRows
+unfolding joined joining_of join_next
+joined_rows = assumption
+
+figure_rows : FigureRows
+unfolding shortest_preamble packets_seen_or_lost packets_in least preamble_at_end all_unused_at_end
+    starts_below sent_with packet_with loco_3 only between packets_lost packets_lost_after report_lost
+    packet_lost with_causes short_preamble ones_before_body off_limits unused_at_end since_refusal
+    unused_after last_outcome frame_lost is_unheard longest_frame_at_end frame_at_end frame_after_ones
+    packet_of_length seen outcome_at outcomes_at is_start used_up halves_used ones_at_end ones_before rest
+    rest_at hunting outcome_of bits_in behind_bits bytes_in body_outcome by_bits by_halves ones_left body
+    halves_of body_bits bits_of number_of
+figure_rows = assumption

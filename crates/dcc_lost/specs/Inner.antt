@@ -5,6 +5,7 @@ use Rattle.dcc_wire.specs.declared.half.Half.TheVariants.{Zero}
 use Rattle.dcc_wire.specs.declared.seen.Seen.{Seen}
 use Rattle.dcc_wire.specs.declared.seen.Seen.TheVariants.{Nothing, Packet, Refused}
 use Rattle.dcc_wire.specs.Outcomes.{ones_left}
+use Rattle.dcc_timing.specs.Inner.Steps.{lesser}
 use Rattle.dcc_lost.specs.Nearest.{nearest_class}
 
 -- the new number of unused half-bits at the end of a list, to which one half-bit was appended. A
@@ -20,6 +21,18 @@ unfoldable pub since_next : Option ℕ → Seen → Option ℕ
 since_next since Nothing = option_map (λ n. min 255 (n + 1)) since
 since_next since (Packet bytes) = None
 since_next since (Refused fault) = Some 0
+
+-- The frame of the packet that ends with a half-bit. If the outcome of this half-bit is no packet, the
+-- result is `lost`, the frame of the packet that is lost there.
+abbrev pub frame_ended : Seen → Option (List ℕ) → Option (List ℕ)
+frame_ended Nothing lost = lost
+frame_ended (Packet bytes) lost = Some bytes
+frame_ended (Refused fault) lost = lost
+
+-- the lesser of the numbers in two options, or `None` if there is no number
+abbrev pub lesser_of : Option ℕ → Option ℕ → Option ℕ
+lesser_of other None = other
+lesser_of other (Some number) = Some (lesser other number)
 
 -- `halves` are 56 half-bits, as many as the body of three bytes has. The half-bits at the places 0,
 -- 18 and 36 have the nearest class Zero. In a body of three bytes, these half-bits begin the zeros

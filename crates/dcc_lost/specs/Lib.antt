@@ -7,3 +7,10 @@ pub mod Inner
 pub mod LostLaws
 pub mod Still
 pub mod Reads
+pub mod Joined
+pub mod JoinedLost
+pub mod Joining
+pub mod JoinedLaws
+pub mod Preambles
+pub mod Figures
+pub mod MeasuresLost

@@ -1,13 +1,16 @@
 //! Bodies in the nearest classes of half-bits.
 
 ghost use Rattle.std.specs.Prelude.{◌≡◌, ◌↔◌, IsTrue, map, get_or, ◌<◌, length, Some};
+ghost use Rattle.dcc_wire.specs.Framing.{Hunting};
 ghost use Rattle.dcc_wire.specs.Inner.Steps.{answer_of};
+ghost use Rattle.dcc_wire.specs.Kept.{kept_rest};
 ghost use Rattle.dcc_wire.specs.Outcomes.{outcome_of};
 ghost use Rattle.dcc_lost.specs.Nearest.{nearest_class};
 ghost use Rattle.dcc_lost.specs.Lost.{frame_after_ones, packet_of_length};
 
+use crate::heard::push_framer;
 use crate::nearest::{corrected, is_nearest_zero, ones_before};
-use dcc_wire::{Frame, Framer, Half, Seen};
+use dcc_wire::{Frame, Framer, Half, KeptFramer, Seen};
 
 /// Returns the outcome of the body that begins with the first of `halves`, whose half-bits have
 /// their nearest classes. Returns `Nothing` if the body is unfinished.
@@ -16,15 +19,27 @@ fn outcome_of(halves: &[u16]) -> Seen
     requires zero { nearest_class (get_or halves.now 0 0) ≡ Half.Zero }
     ensures { result ≡ answer_of (outcome_of (map nearest_class halves.now)) }
 {
-    let mut framer = Framer::new();
-    let _ = framer.push_run(58, 20);
+    let mut framer = after_preamble();
     'halves: for us in halves {
-        let seen = framer.push(corrected(*us));
+        let seen = push_framer(&mut framer, corrected(*us));
         if !seen.is_nothing() {
             return seen;
         }
     }
     Seen::Nothing
+}
+
+/// Returns a framer that has taken 20 half-bits of ones.
+fn after_preamble() -> KeptFramer
+    ensures { kept_rest result ≡ Hunting 20 }
+{
+    let mut framer = Framer::new().keep();
+    let mut ones = 0u32;
+    'ones: while ones < 20 {
+        let _ = push_framer(&mut framer, 58);
+        ones += 1;
+    }
+    framer
 }
 
 /// Returns the frame of `n` bytes whose body follows the first 8 half-bits of `halves`. Returns

@@ -1,16 +1,19 @@
 //! A finder of lost packets.
 
 ghost use Rattle.std.specs.Prelude.{◌≡◌, ◌≤◌, ℕ, List};
-ghost use Rattle.dcc_lost.specs.Finding.{HasRead};
+ghost use Rattle.dcc_timing.specs.Recent.{recent_numbers};
+ghost use Rattle.dcc_lost.specs.Finding.{HasRead, heard_state};
 
 use crate::bodies::frame_after_ones;
 use crate::causes::{LostPacket, first_or_zero, off_limits, ones_at_end, short_preamble};
 use crate::heard::Heard;
 use crate::nearest::{is_nearest_one, is_nearest_zero};
 use dcc_timing::LastNumbers;
-use dcc_wire::Frame;
+use dcc_wire::{Frame, Seen};
 
-/// Finds the packets that a decoder does not hear, in half-bits that come one at a time.
+/// Finds the packets that a decoder does not hear, in half-bits that come one at a time. A finder
+/// consists of plain numbers, so the memory of a C program can store it.
+#[repr(C)]
 #[derive(Drop)]
 pub struct LostFinder {
     heard: Heard,
@@ -18,7 +21,8 @@ pub struct LostFinder {
     /// For each half-bit of `recent`, the number of half-bits directly before it that no outcome
     /// uses.
     unused: LastNumbers,
-    ghost history: { ∥ ((durations : List ℕ) × HasRead heard recent unused durations) ∥₁ },
+    ghost history: { ∥ ((durations : List ℕ)
+        × HasRead (heard_state heard) (recent_numbers recent) (recent_numbers unused) durations) ∥₁ },
 }
 
 /// The answer of a finder to a run of equal half-bits.
@@ -34,8 +38,10 @@ pub struct LostRun {
 impl LostFinder {
     ghost use Rattle.std.specs.Prelude.{◌≡◌, ◌++◌, [], ◌∷◌, ◌≢◌, ◌≤◌, ◌+◌, ◌-◌, ◌↔◌, IsTrue, ℕ, List, None, length};
     ghost use Rattle.std.specs.Prelude.{replicate, if◌then◌else◌, true, false};
-    ghost use Rattle.dcc_wire.specs.Framing.{is_hunting};
-    ghost use Rattle.dcc_lost.specs.Lost.{longest_frame_at_end};
+    ghost use Rattle.dcc_wire.specs.Framing.{is_hunting, report_at, seen};
+    ghost use Rattle.dcc_wire.specs.Kept.{kept_rest};
+    ghost use Rattle.dcc_lost.specs.Lost.{frame_lost, longest_frame_at_end};
+    ghost use Rattle.dcc_lost.specs.Unused.{unused_at_end};
     ghost use Rattle.dcc_lost.specs.Causes.{packet_at_end, packet_lost, packets_lost, report_lost, with_causes};
     ghost use Rattle.dcc_lost.specs.Reads.{Follows};
     ghost use Rattle.dcc_lost.specs.Still.{IsStill};
@@ -49,6 +55,15 @@ impl LostFinder {
             recent: LastNumbers::new(),
             unused: LastNumbers::new(),
         }
+    }
+
+    /// Forgets all half-bits.
+    pub fn clear(&mut self)
+        ensures { Follows self.new [] }
+    {
+        self.heard = Heard::new();
+        self.recent.clear();
+        self.unused.clear();
     }
 
     /// Takes a half-bit of `us` microseconds. Returns the packet that is lost at this half-bit, or
@@ -88,12 +103,64 @@ impl LostFinder {
         ensures some { (durations : List ℕ) → Follows self.old durations → result ≡ true
             → packet_lost durations us ≡ packet_at_end (durations ++ us ∷ []) }
     {
+        let seen = self.hear(us);
+        self.can_be_lost(us, &seen)
+    }
+
+    /// Takes a half-bit of `us` microseconds. Returns the outcome that ends with this half-bit, and
+    /// the frame of the packet that is lost at this half-bit, or `None`.
+    #[inline(always)]
+    pub(crate) fn push_framed(&mut self, us: u16) -> (Seen, Option<Frame>)
+        ensures reads { (durations : List ℕ) → Follows self.old durations
+            → Follows self.new (durations ++ us ∷ []) }
+        ensures sees { (durations : List ℕ) → Follows self.old durations
+            → seen (durations ++ us ∷ []) ≡ seen durations ++ report_at (length durations) result.0 }
+        ensures lost { (durations : List ℕ) → Follows self.old durations → result.1 ≡ frame_lost durations us }
+    {
+        let seen = self.hear(us);
+        if !self.can_be_lost(us, &seen) {
+            return (seen, None);
+        }
+        (seen, longest_frame_at_end(&self.recent))
+    }
+
+    /// Returns the number of half-bits at the end that no outcome uses, at most 20.
+    pub(crate) fn unused(&self) -> u8
+        ensures unused { (durations : List ℕ) → Follows self.now durations → result ≡ unused_at_end durations }
+        ensures few { result ≤ 20 }
+    {
+        self.heard.unused()
+    }
+
+    /// Takes a half-bit of `us` microseconds. Returns the outcome that ends with this half-bit.
+    #[inline(always)]
+    fn hear(&mut self, us: u16) -> Seen
+        ensures history { ∥ ((durations : List ℕ) × Follows self.old durations) ∥₁ }
+        ensures reads { (durations : List ℕ) → Follows self.old durations
+            → Follows self.new (durations ++ us ∷ []) }
+        ensures sees { (durations : List ℕ) → Follows self.old durations
+            → seen (durations ++ us ∷ []) ≡ seen durations ++ report_at (length durations) result }
+    {
         let unused = self.heard.unused();
         self.unused.push(u16::from(unused));
         let seen = self.heard.push(us);
         self.recent.push(us);
+        seen
+    }
+
+    /// Returns false if no packet is lost at the last half-bit that the finder has read. This
+    /// half-bit has `us` microseconds, and `outcome` is its outcome.
+    #[inline(always)]
+    fn can_be_lost(&self, us: u16, outcome: &Seen) -> bool
+        ensures none { (durations : List ℕ) → Follows self.now (durations ++ us ∷ [])
+            → seen (durations ++ us ∷ []) ≡ seen durations ++ report_at (length durations) outcome.now
+            → result ≡ false → frame_lost durations us ≡ None }
+        ensures some { (durations : List ℕ) → Follows self.now (durations ++ us ∷ [])
+            → seen (durations ++ us ∷ []) ≡ seen durations ++ report_at (length durations) outcome.now
+            → result ≡ true → frame_lost durations us ≡ longest_frame_at_end (durations ++ us ∷ []) }
+    {
         // most half-bits are no end of a packet
-        if !seen.is_nothing() {
+        if !outcome.is_nothing() {
             return false;
         }
         if !is_nearest_one(us) {
@@ -125,39 +192,28 @@ impl LostFinder {
                 return LostRun { lost, at };
             }
             if at >= 400 && self.is_still(us) {
-                self.skip(us, n - at);
                 return LostRun { lost: None, at: n };
             }
         }
         LostRun { lost: None, at }
     }
 
-    /// Returns true if more half-bits of `us` microseconds change only the framer.
-    fn is_still(&self, us: u16) -> bool
-        ensures { IsTrue result ↔ IsStill self.now.heard self.now.recent self.now.unused us }
+    /// Returns true if more half-bits of `us` microseconds change nothing.
+    pub(crate) fn is_still(&self, us: u16) -> bool
+        ensures { IsTrue result ↔ IsStill (heard_state self.now.heard) (recent_numbers self.now.recent)
+            (recent_numbers self.now.unused) us }
     {
         are_all(self.recent.last(130), us)
             && are_all(self.unused.last(130), 20)
             && self.heard.is_still()
     }
 
-    /// Takes `n` half-bits of `us` microseconds, which change only the framer.
-    fn skip(&mut self, us: u16, n: u32)
-        requires { IsStill self.old.heard self.old.recent self.old.unused us }
-        ensures reads { (durations : List ℕ) → Follows self.old durations
-            → Follows self.new (durations ++ replicate n us) }
-        ensures quiet { (durations : List ℕ) → Follows self.old durations
-            → packets_lost (durations ++ replicate n us) ≡ packets_lost durations }
-    {
-        self.heard.skip(us, n);
-    }
-
     /// Returns false if no packet is lost at the last half-bit that the finder has read.
     #[inline(always)]
     fn can_end_packet(&self) -> bool
         ensures no { (durations : List ℕ) → Follows self.now durations → result ≡ false
-            → (if is_hunting self.now.heard.framer then longest_frame_at_end durations else None) ≡ None }
-        ensures yes { result ≡ true → is_hunting self.now.heard.framer ≡ true }
+            → (if is_hunting (kept_rest self.now.heard.framer) then longest_frame_at_end durations else None) ≡ None }
+        ensures yes { result ≡ true → is_hunting (kept_rest self.now.heard.framer) ≡ true }
     {
         if !self.heard.is_hunting() {
             return false;
@@ -216,7 +272,7 @@ fn has_start_bits(halves: &[u16]) -> bool
 }
 
 /// Returns true if `numbers` has 130 elements, and each of them equals `number`.
-fn are_all(numbers: &[u16], number: u16) -> bool
+pub(crate) fn are_all(numbers: &[u16], number: u16) -> bool
     ensures { IsTrue result ↔ (numbers.now ≡ replicate 130 number) }
 {
     numbers.len() == 130 && each_is(numbers, number)
@@ -231,8 +287,8 @@ fn each_is(numbers: &[u16], number: u16) -> bool
 
 /// Returns the longest frame whose body is the end of `recent`, after at least 8 half-bits of ones.
 #[tactic(auto, unfolding(crate::specs::Lost::longest_frame_at_end))]
-fn longest_frame_at_end(recent: &LastNumbers) -> Option<Frame>
-    ensures { result ≡ longest_frame_at_end recent.now }
+pub(crate) fn longest_frame_at_end(recent: &LastNumbers) -> Option<Frame>
+    ensures { result ≡ longest_frame_at_end (recent_numbers recent.now) }
 {
     if let Some(frame) = frame_at_end(recent, 6) {
         return Some(frame);
@@ -252,7 +308,7 @@ fn longest_frame_at_end(recent: &LastNumbers) -> Option<Frame>
 #[inline(always)]
 fn frame_at_end(recent: &LastNumbers, n: usize) -> Option<Frame>
     requires { n ≤ 6 }
-    ensures { result ≡ frame_at_end n recent.now }
+    ensures { result ≡ frame_at_end n (recent_numbers recent.now) }
 {
     frame_after_ones(recent.last(18 * n + 10), n)
 }

@@ -1,20 +1,21 @@
 //! A framer, and the half-bits that its outcomes do not use.
 
 ghost use Rattle.std.specs.Prelude.{◌≡◌, ◌≤◌};
-ghost use Rattle.dcc_wire.specs.Framing.{is_hunting};
 
-use dcc_wire::{Fault, Framer, Seen};
+use dcc_wire::{Fault, Framer, KeptFramer, Seen};
 
 /// A framer, and the numbers of half-bits that follow its last outcome.
+#[repr(C)]
 #[derive(Drop)]
 pub struct Heard {
-    framer: Framer,
+    framer: KeptFramer,
     /// The number of half-bits at the end of the pushed half-bits that no outcome uses, at most 20.
     /// The two half-bits of an end bit count as unused.
     unused: u8,
-    /// The number of half-bits after the last outcome, at most 255. The field is `None` if this
-    /// outcome is not a refusal.
-    since_refusal: Option<u8>,
+    /// True if the last outcome is a refusal. The field `since` is then the number of half-bits
+    /// after this refusal, at most 255.
+    refused: bool,
+    since: u8,
     ghost few: { unused ≤ 20 },
 }
 
@@ -22,31 +23,37 @@ impl Heard {
     ghost use Rattle.std.specs.Prelude.{◌≡◌, ◌≤◌, ◌↔◌, ◌++◌, [], ◌∷◌, ℕ, List, length, replicate, IsTrue, IfSome, true};
     ghost use Rattle.dcc_wire.specs.Framing.{Hunting, rest, seen, report_at};
     ghost use Rattle.dcc_wire.specs.Half.{class_of};
+    ghost use Rattle.dcc_wire.specs.Kept.{kept_rest};
     ghost use Rattle.dcc_wire.specs.Runs.{IsQuiet};
     ghost use Rattle.dcc_lost.specs.Unused.{Hears, since_refusal, last_outcome, unused_at_end};
+    ghost use Rattle.dcc_lost.specs.Finding.{since_of};
     ghost use Rattle.dcc_wire.specs.Framing.{is_hunting};
     ghost use Rattle.dcc_lost.specs.Inner.{unused_next, since_next};
 
     /// Creates the state before the first half-bit.
     pub(crate) fn new() -> Heard
-        ensures { Hears result.framer result.unused result.since_refusal [] }
+        ensures { Hears (kept_rest result.framer) result.unused (since_of result.refused result.since) [] }
     {
         Heard {
-            framer: Framer::new(),
+            framer: Framer::new().keep(),
             unused: 0,
-            since_refusal: None,
+            refused: false,
+            since: 0,
         }
     }
 
     /// Takes a half-bit of `us` microseconds. Returns the outcome that ends with this half-bit.
     #[inline(always)]
     pub(crate) fn push(&mut self, us: u16) -> Seen
-        ensures hears { (durations : List ℕ) → Hears self.old.framer self.old.unused self.old.since_refusal durations
-            → Hears self.new.framer self.new.unused self.new.since_refusal (durations ++ us ∷ []) }
-        ensures sees { (durations : List ℕ) → Hears self.old.framer self.old.unused self.old.since_refusal durations
+        ensures hears { (durations : List ℕ)
+            → Hears (kept_rest self.old.framer) self.old.unused (since_of self.old.refused self.old.since) durations
+            → Hears (kept_rest self.new.framer) self.new.unused (since_of self.new.refused self.new.since)
+            (durations ++ us ∷ []) }
+        ensures sees { (durations : List ℕ)
+            → Hears (kept_rest self.old.framer) self.old.unused (since_of self.old.refused self.old.since) durations
             → seen (durations ++ us ∷ []) ≡ seen durations ++ report_at (length durations) result }
     {
-        let seen = self.framer.push(us);
+        let seen = push_framer(&mut self.framer, us);
         self.count(&seen);
         seen
     }
@@ -57,19 +64,22 @@ impl Heard {
     fn count(&mut self, seen: &Seen)
         ensures framer { self.new.framer ≡ self.old.framer }
         ensures unused { self.new.unused ≡ unused_next self.old.unused seen.now }
-        ensures since { self.new.since_refusal ≡ since_next self.old.since_refusal seen.now }
+        ensures since { since_of self.new.refused self.new.since
+            ≡ since_next (since_of self.old.refused self.old.since) seen.now }
     {
         // most half-bits of a body change nothing
-        if seen.is_nothing() && self.unused == 20 && self.since_refusal.is_none() {
+        if seen.is_nothing() && self.unused == 20 && !self.refused {
             return;
         }
         self.unused = unused_next(self.unused, seen);
-        self.since_refusal = since_next(self.since_refusal, seen);
+        let since = since_next(self.since_refusal(), seen);
+        self.refused = since.is_some();
+        self.since = since.unwrap_or(0);
     }
 
     /// Returns true if no body is unfinished.
     pub(crate) fn is_hunting(&self) -> bool
-        ensures { result ≡ is_hunting self.now.framer }
+        ensures { result ≡ is_hunting (kept_rest self.now.framer) }
     {
         self.framer.is_hunting()
     }
@@ -77,32 +87,18 @@ impl Heard {
     /// Returns true if three conditions hold: no body is unfinished, no outcome uses the last 20
     /// half-bits, and `since_refusal` is `None` or its greatest value, 255.
     pub(crate) fn is_still(&self) -> bool
-        ensures { IsTrue result ↔ ((self.now.unused ≡ 20) × (is_hunting self.now.framer ≡ true)
-            × IfSome self.now.since_refusal (λ count. count ≡ 255)) }
+        ensures { IsTrue result ↔ ((self.now.unused ≡ 20) × (is_hunting (kept_rest self.now.framer) ≡ true)
+            × IfSome (since_of self.now.refused self.now.since) (λ count. count ≡ 255)) }
     {
-        let is_late = match self.since_refusal {
-            None => true,
-            Some(count) => count == 255,
-        };
+        let is_late = !self.refused || self.since == 255;
         self.unused == 20 && is_late && self.is_hunting()
-    }
-
-    /// Takes `n` half-bits of `us` microseconds, which begin no body.
-    pub(crate) fn skip(&mut self, us: u16, n: u32)
-        requires unused { self.old.unused ≡ 20 }
-        requires since { IfSome self.old.since_refusal (λ count. count ≡ 255) }
-        ensures { (durations : List ℕ) (ones : ℕ)
-            → Hears self.old.framer self.old.unused self.old.since_refusal durations
-            → rest durations ≡ Hunting ones → IsQuiet ones (class_of us)
-            → Hears self.new.framer self.new.unused self.new.since_refusal (durations ++ replicate n us) }
-    {
-        let _ = self.framer.push_run(us, n);
     }
 
     /// Returns the number of half-bits at the end of the pushed half-bits that no outcome uses, at
     /// most 20.
     pub(crate) fn unused(&self) -> u8
-        ensures unused { (durations : List ℕ) → Hears self.now.framer self.now.unused self.now.since_refusal durations
+        ensures unused { (durations : List ℕ)
+            → Hears (kept_rest self.now.framer) self.now.unused (since_of self.now.refused self.now.since) durations
             → result ≡ unused_at_end durations }
         ensures few { result ≤ 20 }
     {
@@ -112,10 +108,46 @@ impl Heard {
     /// Returns the number of half-bits after the last outcome, at most 255. Returns `None` if this
     /// outcome is not a refusal.
     pub(crate) fn since_refusal(&self) -> Option<u8>
-        ensures { result ≡ self.now.since_refusal }
+        ensures { result ≡ since_of self.now.refused self.now.since }
     {
-        self.since_refusal
+        if self.refused { Some(self.since) } else { None }
     }
+}
+
+ghost use Rattle.std.specs.Prelude.{ℕ, List, ◌++◌, ◌∷◌, [], length};
+ghost use Rattle.dcc_wire.specs.Framing.{StandsFor, seen, report_at};
+ghost use Rattle.dcc_wire.specs.Kept.{kept_rest};
+
+/// Takes a half-bit of `us` microseconds, with the contract of `KeptFramer::push`. Only few
+/// half-bits end an outcome, and a separate function takes them.
+#[tactic(auto, unfolding(dcc_wire::specs::Framing::report_at))]
+#[inline(always)]
+pub(crate) fn push_framer(framer: &mut KeptFramer, us: u16) -> Seen
+    ensures history { (durations : List ℕ) × StandsFor (kept_rest framer.old) durations }
+    ensures stands { (durations : List ℕ) → StandsFor (kept_rest framer.old) durations
+        → StandsFor (kept_rest framer.new) (durations ++ us ∷ []) }
+    ensures sees { (durations : List ℕ) → StandsFor (kept_rest framer.old) durations
+        → seen (durations ++ us ∷ []) ≡ seen durations ++ report_at (length durations) result }
+{
+    if framer.pass(us) {
+        return Seen::Nothing;
+    }
+    push_apart(framer, us)
+}
+
+/// Takes a half-bit of `us` microseconds, with the contract of `KeptFramer::push`.
+#[inline(never)]
+fn push_apart(framer: &mut KeptFramer, us: u16) -> Seen
+    ensures history { (durations : List ℕ) × StandsFor (kept_rest framer.old) durations }
+    ensures stands { (durations : List ℕ) → StandsFor (kept_rest framer.old) durations
+        → StandsFor (kept_rest framer.new) (durations ++ us ∷ []) }
+    ensures sees { (durations : List ℕ) → StandsFor (kept_rest framer.old) durations
+        → seen (durations ++ us ∷ []) ≡ seen durations ++ report_at (length durations) result }
+{
+    let mut inner = framer.framer();
+    let seen = inner.push(us);
+    *framer = inner.keep();
+    seen
 }
 
 ghost use Rattle.dcc_lost.specs.Inner.{unused_next, since_next};

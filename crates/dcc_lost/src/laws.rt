@@ -27,3 +27,40 @@ pub fn lost_packets_have_causes()
 pub fn one_outcome_uses_the_preamble()
     ensures { OneOutcomeUsesThePreamble }
 {}
+
+ghost use Rattle.dcc_lost.specs.JoinedLaws.{FoundBodiesAreUnused, NoHalfIsRemoved};
+
+/// Theorem: the joined half-bits of a list, one after the other, are the half-bits of this list.
+pub fn joining_keeps_all_half_bits()
+    ensures { NoHalfIsRemoved }
+{}
+
+/// Theorem: no packet that is seen uses a half-bit of the body of a found packet. The packet that is
+/// seen ends before this body begins, or its own body begins after the end of the found packet.
+pub fn found_bodies_are_unused()
+    ensures { FoundBodiesAreUnused }
+{}
+
+ghost use Rattle.dcc_lost.specs.JoinedLaws.{OnlySpikesAreJoined};
+
+/// Theorem: if no half-bit of a list is shorter than the limit, each half-bit is a joined half-bit of
+/// its own.
+pub fn only_spikes_are_joined()
+    ensures { OnlySpikesAreJoined }
+{}
+
+ghost use Rattle.dcc_lost.specs.JoinedLaws.{FoundPacketsHaveCauses};
+
+/// Theorem: each packet that is found in half-bits of at most 65535 microseconds has a cause: one of
+/// the causes of a lost packet, or spikes.
+pub fn found_packets_have_causes()
+    ensures { FoundPacketsHaveCauses }
+{}
+
+ghost use Rattle.dcc_lost.specs.JoinedLaws.{FoundWithoutSpikesIsLost};
+
+/// Theorem: let no half-bit of a list be shorter than the limit or longer than 65535 microseconds. A
+/// packet that is found at the last half-bit of this list is then also lost there without joining.
+pub fn without_spikes_found_packets_are_lost()
+    ensures { FoundWithoutSpikesIsLost }
+{}

@@ -9,12 +9,17 @@
 
 mod bodies;
 mod causes;
+mod figures;
 mod finder;
 mod heard;
+mod joined;
 pub mod laws;
 mod nearest;
+mod rings;
 #[cfg(test)]
 mod tests;
 
 pub use causes::{LostPacket, OffLimits, ShortPreamble};
+pub use figures::LostFigures;
 pub use finder::{LostFinder, LostRun};
+pub use joined::{SpikeFinder, SpikedPacket};

@@ -1,6 +1,6 @@
-//! Tests of worked examples, of runs against their single half-bits, and of long runs.
+//! Tests of worked examples, of runs against their single half-bits, of long runs, and of figures.
 
-use crate::{LostFinder, LostPacket, OffLimits, ShortPreamble};
+use crate::{LostFigures, LostFinder, LostPacket, OffLimits, ShortPreamble};
 use dcc_wire::Frame;
 use std::process::Abort;
 use std::test::Fail;
@@ -163,5 +163,98 @@ fn a_long_run_ends_soon(rt: HostRuntime) {
             let run = finder.push_run(us, 4_294_967_295);
             assert!(rt; run.at == 4_294_967_295);
         }
+    }
+}
+
+/// Returns the figures of a list of runs.
+fn figures_of(runs: &[Run]) -> (u32, Option<u16>) {
+    let mut figures = LostFigures::new();
+    for (us, n) in runs {
+        figures.push_run(*us, *n);
+    }
+    (figures.lost(), figures.shortest_preamble())
+}
+
+#[test]
+fn preambles_are_counted_beyond_twenty(rt: HostRuntime) {
+    for (n, lost, shortest) in [
+        (7, 0, None),
+        (8, 1, Some(8)),
+        (19, 1, Some(19)),
+        (20, 0, Some(20)),
+        (28, 0, Some(28)),
+        (65534, 0, Some(65534)),
+        (65536, 0, Some(65535)),
+        (70000, 0, Some(65535)),
+    ] {
+        let mut figures = LostFigures::new();
+        figures.push_run(58, n);
+        for (us, n) in &SPEED_STEP_1 {
+            figures.push_run(*us, *n);
+        }
+        assert!(rt; figures.lost() == lost, "{n}");
+        assert!(rt; figures.shortest_preamble() == shortest, "{n}");
+    }
+}
+
+#[test]
+fn an_end_bit_counts_for_the_next_preamble(rt: HostRuntime) {
+    let mut figures = LostFigures::new();
+    for ones in [28, 30, 14, 26] {
+        figures.push_run(58, ones);
+        for (us, n) in &SPEED_STEP_1 {
+            figures.push_run(*us, *n);
+        }
+    }
+    // the last two half-bits of the body are the end bit, so the third preamble has 16 half-bits
+    assert!(rt; figures.lost() == 1);
+    assert!(rt; figures.shortest_preamble() == Some(16));
+}
+
+#[test]
+fn half_bits_without_a_packet_have_no_preamble(rt: HostRuntime) {
+    assert!(rt; figures_of(&[]) == (0, None));
+    assert!(rt; figures_of(&[(58, 100000), (100, 100000), (5, 3)]) == (0, None));
+}
+
+#[test]
+fn figures_of_a_run_are_as_of_its_half_bits(rt: HostRuntime) {
+    for us in [58, 100, 70, 5] {
+        for n in [0, 1, 15, 19, 21, 66_500] {
+            let mut by_runs = LostFigures::new();
+            let mut one_by_one = LostFigures::new();
+            for (us, n) in &[(us, n), (100, 1), (58, 19)] {
+                by_runs.push_run(*us, *n);
+                for _ in 0..*n {
+                    one_by_one.push(*us);
+                }
+            }
+            for (us, n) in &SPEED_STEP_1 {
+                by_runs.push_run(*us, *n);
+                for _ in 0..*n {
+                    one_by_one.push(*us);
+                }
+            }
+            assert!(rt; by_runs.lost() == one_by_one.lost());
+            assert!(rt; by_runs.shortest_preamble() == one_by_one.shortest_preamble());
+        }
+    }
+}
+
+#[test]
+fn figures_of_a_long_run_end_soon(rt: HostRuntime) {
+    for us in [58, 100, 70, 5] {
+        let mut figures = LostFigures::new();
+        for _ in 0..2 {
+            figures.push_run(us, 4_000_000_000);
+        }
+        for (us, n) in &SPEED_STEP_1 {
+            figures.push_run(*us, *n);
+        }
+        let shortest = match us {
+            58 | 70 => Some(65535),
+            _ => None,
+        };
+        assert!(rt; figures.shortest_preamble() == shortest, "{us}");
     }
 }

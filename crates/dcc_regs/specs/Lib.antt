@@ -25,6 +25,7 @@ pub mod Laws
 pub mod Safety
 pub mod Inner
 -- Definitions of lower crates that the contracts of this crate use.
+pub use Rattle.dcc_packet.specs.Bits
 pub use Rattle.dcc_packet.specs.Cvs
 pub use Rattle.dcc_packet.specs.StoredCvs
 pub use Rattle.dcc_packet.specs.Spelling

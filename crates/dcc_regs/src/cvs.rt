@@ -57,13 +57,13 @@ pub fn hear(cvs: &mut [u8; 1024], pending: &Option<Packet>, packet: &Packet)
         (cv_in cvs.old cv) place) }
 {
     if is_repeated_write(pending, packet) {
-        write(cvs, packet);
+        execute_write(cvs, packet);
     }
 }
 
 /// Executes a CV write, which writes a CV or a bit of a CV. CV7 and CV8 never change. A packet of
-/// another kind changes no CV.
-fn write(cvs: &mut [u8; 1024], packet: &Packet)
+/// another kind changes no CV. The function does not check that the write takes effect (RCN-214).
+pub fn execute_write(cvs: &mut [u8; 1024], packet: &Packet)
     ensures { (cv place : ℕ) → 1 ≤ cv → place ≤ 7
         → is_one (cv_in cvs.new cv) place ≡ unwrap_or (bit_set packet.now cv place)
         (is_one (cv_in cvs.old cv) place) }

@@ -4,6 +4,7 @@ ghost use Rattle.std.specs.Prelude.{◌≡◌, ◌↔◌, ◌⊎◌, ℕ, None, 
 ghost use Rattle.dcc_regs.specs.Effects.{Differ, effect_on};
 ghost use Rattle.dcc_regs.specs.Inner.EffectParts.{BoardsDiffer, LocosDiffer, NothingAtBoards, NothingAtLocos};
 ghost use Rattle.dcc_regs.specs.Sets.{sets};
+ghost use Rattle.dcc_regs.specs.Speeds.{direction_set, speed_set};
 ghost use Rattle.dcc_regs.specs.declared.register.Register.{Register};
 
 use crate::aspects::Aspects;
@@ -43,8 +44,8 @@ impl Effects {
         ensures { (r : Register) → effect_on result r ≡ sets mode packet.now r }
     {
         Effects {
-            speed: speed_set(mode, packet),
-            direction: direction_set(packet),
+            speed: effect_on_speed(mode, packet),
+            direction: effect_on_direction(packet),
             functions: functions_set(mode, packet),
             states: states_set(packet),
             outs: outs_set(packet),
@@ -102,6 +103,24 @@ impl Effects {
     {
         self.outs.is_nothing() && self.positions.is_nothing() && self.aspects.is_nothing()
     }
+}
+
+/// Returns the speed that a packet sets. Returns `None` if the packet sets no speed.
+// not inlined, so that `Effects::of` takes less stack
+#[inline(never)]
+fn effect_on_speed(mode: SpeedMode, packet: &Packet) -> Option<Speed>
+    ensures { result ≡ speed_set mode packet.now }
+{
+    speed_set(mode, packet)
+}
+
+/// Returns the direction that a packet sets. Returns `None` if the packet sets no direction.
+// not inlined, so that `Effects::of` takes less stack
+#[inline(never)]
+fn effect_on_direction(packet: &Packet) -> Option<bool>
+    ensures { result ≡ direction_set packet.now }
+{
+    direction_set(packet)
 }
 
 /// Returns true if both speeds exist and are different.

@@ -81,6 +81,8 @@ impl LocoRegisters {
     }
 
     /// Returns true if a decoder can have these registers, with any CVs.
+    // not inlined, so that its caller takes less stack
+    #[inline(never)]
     pub fn is_possible(&self) -> bool
         ensures { (cvs : List ℕ) → result ≡ is_state (with_cvs self.now cvs) }
     {
@@ -163,7 +165,9 @@ fn is_active(active: &Option<Address>) -> bool
     !matches!(active, Some(Address::Broadcast))
 }
 
-fn is_speed(speed: Speed) -> bool
+/// Returns true if the speed is a stop, or a step in the range of its speed mode.
+#[inline(always)]
+pub fn is_speed(speed: Speed) -> bool
     ensures { result ≡ is_speed_in_range speed }
 {
     match speed {

@@ -36,7 +36,7 @@ impl Masked {
     /// Returns `word` with the bits of `mask` set as in this effect, and with all other bits
     /// unchanged.
     #[inline(always)]
-    pub(crate) fn over(&self, word: u128) -> u128
+    pub fn over(&self, word: u128) -> u128
         ensures { (n : ℕ) → is_one result n ≡ unwrap_or (masked_bit self.now.mask self.now.bits n) (is_one word n) }
     {
         // (most packets set no function or no state, and then take 10 instructions less)
@@ -56,7 +56,8 @@ impl Masked {
     }
 
     /// Returns true if the effect sets no bit.
-    pub(crate) fn is_nothing(&self) -> bool
+    #[inline(always)]
+    pub fn is_nothing(&self) -> bool
         ensures { IsTrue result ↔ ((n : ℕ) → masked_bit self.now.mask self.now.bits n ≡ None) }
     {
         self.mask == 0

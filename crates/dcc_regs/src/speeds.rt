@@ -55,6 +55,7 @@ fn stop_of(bits: u8) -> Option<Speed>
 }
 
 /// Returns the speed that a packet sets. Returns `None` if the packet sets no speed.
+#[inline(always)]
 pub fn speed_set(mode: SpeedMode, packet: &Packet) -> Option<Speed>
     ensures speed { result ≡ table.speed_set mode packet.now }
     ensures step { IfSome result (λ speed. is_speed speed ≡ true) }
@@ -74,6 +75,7 @@ pub fn speed_set(mode: SpeedMode, packet: &Packet) -> Option<Speed>
 
 /// Returns the direction that a packet sets, true for forward. Returns `None` if the packet sets no
 /// direction.
+#[inline(always)]
 pub fn direction_set(packet: &Packet) -> Option<bool>
     ensures { result ≡ table.direction_set packet.now }
 {

@@ -1,7 +1,11 @@
 -- The last numbers of a list that grows.
 use Rattle.std.proofs.Common.{◌≡◌, ℕ, ◌+◌, ◌-◌, ◌≤◌, min, List, ◌++◌, length, drop, replicate, refl, sym, ap, ◌∙◌}
 use Rattle.std.proofs.Common.{arith}
-use Rattle.std.proofs.Common.{[], ◌∷◌, inl, inr, length-append, length-drop, append_assoc}
+use Rattle.std.proofs.Common.{[], ◌∷◌, inl, inr, length-append, length-drop, append_assoc, take, length-take-le}
+use lib.Seq.{paste}
+use Rattle.std.proofs.Common.{◌<◌, slice_set}
+use Rattle.std.proofs.lemmas.List.{drop-take, take_more_set}
+use Rattle.std.proofs.lemmas.List.Edits.{take-paste}
 use Rattle.std.proofs.lemmas.List.{drop-append-le, drop-drop, drop-replicate, drop_at, length-replicate, replicate_more}
 use Rattle.std.proofs.lemmas.Bool.{cases_lt}
 use Rattle.dcc_timing.specs.Numbers.{keep_last}
@@ -61,3 +65,38 @@ keep_last_keep few many xs less =
     let left : length (drop d xs) ≡ length xs - d = length-drop d xs in
     let place : d + (length (drop d xs) - few) ≡ length xs - few = omega (arith, left, less) in
     drop-drop (length (drop d xs) - few) d xs ∙ ap (λ n. drop n xs) place
+
+-- one more number behind those of an array
+pub appended : (before after : List ℕ) (number : ℕ) → after ≡ before ++ number ∷ []
+    → keep_last 130 after ≡ keep_last 130 (keep_last 130 before ++ number ∷ [])
+appended before after number e = ap (keep_last 130) e ∙ sym (keep_last_behind 130 before (number ∷ []))
+
+-- one more number at the first free place of an array
+pub added : (numbers new : List ℕ) (len at number : ℕ) → at ≡ len → len < length numbers
+    → new ≡ slice_set numbers at number
+    → keep_last 130 (take (len + 1) new) ≡ keep_last 130 (keep_last 130 (take len numbers) ++ number ∷ [])
+added numbers new len at number is within e =
+    appended (take len numbers) (take (len + 1) new) number
+    (ap (take (len + 1)) e ∙ ap (λ k. take (len + 1) (slice_set numbers k number)) is
+    ∙ take_more_set numbers len number within)
+
+-- the last numbers of a full array, moved to its front
+pub moved_to_front : (all new : List ℕ) → length all ≡ 192 → new ≡ paste all 0 (drop 62 all) (192 - 62)
+    → keep_last 130 (take 130 new) ≡ keep_last 130 (take 192 all)
+moved_to_front all new long e =
+    let whole : length (take 192 all) ≡ 192 = length-take-le 192 all (omega (arith, long)) in
+    let place : 62 ≡ length (take 192 all) - 130 = omega (arith, whole) in
+    let front : take 130 new ≡ keep_last 130 (take 192 all) =
+    ap (take 130) e ∙ take-paste all 0 (drop 62 all) 130 (omega arith) (omega (arith, long, length-drop 62 all))
+    ∙ sym (drop-take 62 130 all) ∙ ap (λ k. drop k (take 192 all)) place in
+    ap (keep_last 130) front ∙ keep_last_keep 130 130 (take 192 all) (omega arith)
+
+-- the last numbers of those at the first places of an array
+pub last_places : (all part : List ℕ) (len n to start : ℕ) → len ≤ length all → n ≤ 130 → to ≡ len → start ≡ to - n
+    → part ≡ take (to - start) (drop start all) → part ≡ keep_last n (keep_last 130 (take len all))
+last_places all part len n to start within few same from e =
+    let count : length (take len all) ≡ len = length-take-le len all within in
+    let end : start + (to - start) ≡ len = omega (arith, same, from) in
+    let begin : start ≡ length (take len all) - n = omega (arith, same, from, count) in
+    e ∙ sym (drop-take start (to - start) all) ∙ ap (λ k. drop start (take k all)) end
+    ∙ ap (λ k. drop k (take len all)) begin ∙ sym (keep_last_keep n 130 (take len all) few)

@@ -1,4 +1,5 @@
 pub mod Numbers
+pub mod Recent
 pub mod Tallies
 pub mod Classes
 pub mod Outcomes

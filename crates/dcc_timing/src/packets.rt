@@ -22,6 +22,7 @@ impl Packets {
     ghost use Rattle.dcc_timing.specs.Inner.Counts.{bits_count};
     ghost use Rattle.dcc_timing.specs.Inner.Steps.{bits_shown, bits_among, end_among};
     ghost use Rattle.dcc_timing.specs.KeptGaps.{AreGaps};
+    ghost use Rattle.dcc_timing.specs.Recent.{recent_numbers};
 
     /// Creates the statistics of the empty list of half-bits.
     pub(crate) fn new() -> Packets
@@ -40,7 +41,7 @@ impl Packets {
     pub(crate) fn add(&mut self, seen: &Seen, end: u64, recent: &LastNumbers)
         requires { bits_count self.old.bits + 130 < 2 ^ 40 }
         ensures bits { (bits : List (ℕ × ℕ)) → AreBits self.old.bits bits
-            → AreBits self.new.bits (bits ++ bits_among (bits_shown seen.now) recent.now) }
+            → AreBits self.new.bits (bits ++ bits_among (bits_shown seen.now) (recent_numbers recent.now)) }
         ensures gaps { (ends : List ℕ) → AreGaps self.old.gaps ends
             → AreGaps self.new.gaps (ends ++ end_among (bits_shown seen.now) end) }
         ensures count { bits_count self.new.bits ≤ bits_count self.old.bits + 130 }

@@ -1,60 +1,78 @@
 //! The last 130 numbers of a list.
 
-ghost use Rattle.std.specs.Prelude.{◌≡◌, ◌<◌};
-ghost use Rattle.arrayvec.specs.ArrayVec.{array_vec_len};
-ghost use Rattle.dcc_timing.specs.Numbers.{keep_last};
-
-use arrayvec::ArrayVec;
-use std::marker::Model;
+ghost use Rattle.std.specs.Prelude.{◌≡◌, ◌≤◌, length};
 
 /// The last 130 numbers of a list, or all numbers of a shorter list. The longest packet and the
 /// last ten ones of its preamble have 130 half-bits together.
+#[repr(C)]
 #[derive(Drop)]
 pub struct LastNumbers {
-    /// The last 130 numbers of the list, and sometimes numbers before them.
-    numbers: Numbers,
-}
-
-type Numbers = ArrayVec<u16, 512>;
-
-impl Model for LastNumbers {
-    ghost use Rattle.std.specs.Prelude.{ℕ, List};
-    ghost use Rattle.dcc_timing.specs.Numbers.{keep_last};
-
-    ghost Value = { List ℕ };
-
-    ghost view = { λ r. keep_last 130 r.numbers.items };
+    /// At the first `len` places: the last 130 numbers of the list, and sometimes numbers before
+    /// them.
+    numbers: [u16; 192],
+    len: u16,
+    ghost fits: { (len ≤ 192) × (length numbers ≡ 192) },
 }
 
 impl LastNumbers {
-    ghost use Rattle.std.specs.Prelude.{◌≡◌, ◌≤◌, ℕ, List, [], ◌∷◌, ◌++◌, replicate};
+    ghost use Rattle.std.specs.Prelude.{◌≡◌, ◌≤◌, ◌<◌, ℕ, List, [], ◌∷◌, ◌++◌, replicate};
     ghost use Rattle.dcc_timing.specs.Numbers.{keep_last};
+    ghost use Rattle.dcc_timing.specs.Recent.{recent_numbers};
 
     /// Creates an empty list.
     pub fn new() -> LastNumbers
-        ensures { result ≡ [] }
+        ensures { recent_numbers result ≡ [] }
     {
         LastNumbers {
-            numbers: Numbers::new(),
+            numbers: [0; 192],
+            len: 0,
         }
+    }
+
+    /// Removes all numbers.
+    pub fn clear(&mut self)
+        ensures { recent_numbers self.new ≡ [] }
+    {
+        self.len = 0;
     }
 
     /// Appends a number to the list.
     #[inline(always)]
     pub fn push(&mut self, number: u16)
-        ensures { self.new ≡ keep_last 130 (self.old ++ number ∷ []) }
+        ensures { recent_numbers self.new ≡ keep_last 130 (recent_numbers self.old ++ number ∷ []) }
     {
-        if self.numbers.is_full() {
-            self.numbers = last_of(self.numbers.as_slice());
+        if self.len == 192 {
+            self.move_to_front();
         }
-        self.numbers.push(number);
+        self.add(number);
+    }
+
+    /// Moves the last 130 numbers to the front of the array, which is full.
+    #[inline(never)]
+    fn move_to_front(&mut self)
+        requires { self.old.len ≡ 192 }
+        ensures numbers { recent_numbers self.new ≡ recent_numbers self.old }
+        ensures room { self.new.len < 192 }
+    {
+        self.numbers.copy_within(62..192, 0);
+        self.len = 130;
+    }
+
+    /// Appends a number to the list. The array must not be full.
+    #[inline(always)]
+    fn add(&mut self, number: u16)
+        requires { self.old.len < 192 }
+        ensures { recent_numbers self.new ≡ keep_last 130 (recent_numbers self.old ++ number ∷ []) }
+    {
+        self.numbers[usize::from(self.len)] = number;
+        self.len += 1;
     }
 
     /// Appends a number to the list `n` times.
     pub fn take(&mut self, number: u16, n: u32)
         // If these are the last 130 numbers of a list, they are then the last 130 of the longer list.
-        ensures { (numbers : List ℕ) → self.old ≡ keep_last 130 numbers
-            → self.new ≡ keep_last 130 (numbers ++ replicate n number) }
+        ensures { (numbers : List ℕ) → recent_numbers self.old ≡ keep_last 130 numbers
+            → recent_numbers self.new ≡ keep_last 130 (numbers ++ replicate n number) }
     {
         let mut left = n.min(130);
         'numbers: while left > 0 {
@@ -66,19 +84,9 @@ impl LastNumbers {
     /// Returns the last `n` numbers of the list, or all numbers if the list has fewer.
     pub fn last(&self, n: usize) -> &[u16]
         requires { n ≤ 130 }
-        ensures { result.now ≡ keep_last n self.now }
+        ensures { result.now ≡ keep_last n (recent_numbers self.now) }
     {
-        let numbers = self.numbers.as_slice();
-        &numbers[numbers.len().saturating_sub(n)..]
+        let len = usize::from(self.len);
+        &self.numbers[len.saturating_sub(n)..len]
     }
-}
-
-/// Returns the last 130 of `numbers`, or all numbers if the list has fewer.
-fn last_of(numbers: &[u16]) -> Numbers
-    ensures items { result.items ≡ keep_last 130 numbers.now }
-    ensures room { array_vec_len result < 512 }
-{
-    let mut last = Numbers::new();
-    let _ = last.try_extend_from_slice(&numbers[numbers.len().saturating_sub(130)..]);
-    last
 }

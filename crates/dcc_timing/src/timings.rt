@@ -4,6 +4,7 @@
 ghost use Rattle.std.specs.Prelude.{◌≤◌, ◌*◌, ℕ, List};
 ghost use Rattle.dcc_timing.specs.Inner.Counts.{classes_count, outcomes_count, bits_count};
 ghost use Rattle.dcc_timing.specs.Measured.{AreMeasured};
+ghost use Rattle.dcc_timing.specs.Recent.{recent_numbers};
 
 use crate::bits::Bits;
 use crate::classes::Classes;
@@ -31,7 +32,8 @@ pub struct Timings {
     ghost classes_fit: { classes_count classes ≤ halves },
     ghost outcomes_fit: { outcomes_count outcomes ≤ halves },
     ghost bits_fit: { bits_count packets.bits ≤ 130 * halves },
-    ghost history: { ∥ ((list : List ℕ) × AreMeasured halves time classes outcomes packets framer recent list) ∥₁ },
+    ghost history: { ∥ ((list : List ℕ)
+        × AreMeasured halves time classes outcomes packets framer (recent_numbers recent) list) ∥₁ },
 }
 
 impl Timings {

@@ -12,13 +12,13 @@ use Rattle.dcc_capture.specs.Capture.{captures}
 use Rattle.dcc_capture.specs.Listing.{listing}
 use Rattle.dcc_capture.proofs.ListingLaws.{lists_in_hex}
 use Rattle.dcc_listen.specs.FleetRun.{HaveHeard}
-use Rattle.dcc_listen.specs.TimingText.{timing_text}
 use Rattle.dcc_send.specs.Encoded.{Encodes}
 use Rattle.dcc_send.specs.ProgrammingTrackReading.{reading_text}
 use Rattle.dcc_send.specs.StationEncoded.{Answered}
 use Rattle.dcc_tool.specs.Written.{Gains, halves_said, ShowWritesTheListing, EncodeWritesTheEncoding}
-use Rattle.dcc_tool.specs.Written.{LostWritesTheLostPackets, RunWritesTheDecoders}
-use Rattle.dcc_tool.specs.Written.{ShowWritesAListing, TimingWritesTheFigures, StationWritesItsAnswers}
+use Rattle.dcc_tool.specs.Written.{LostWithSpikesWritesTheFoundPackets, LostWritesTheLostPackets, RunWritesTheDecoders}
+use Rattle.dcc_tool.specs.Written.{ShowPlainWritesAListing, ShowWritesAListing, TimingWritesTheFigures}
+use Rattle.dcc_tool.specs.Written.{StationWritesItsAnswers}
 use Rattle.dcc_tool.specs.Written.{ReadcvWritesTheReading}
 use Rattle.dcc_tool.specs.Written.{SameWritesTheVerdict, SameInputWritesTheVerdict, WhatWritesTheSentence}
 use Rattle.dcc_io.specs.AllBytes.{bytes_of_text}
@@ -68,8 +68,18 @@ show_writes_a_listing words old new before after text shows known =
     let lists = (of_text captures old new _ text shows.0 known).0 in
     (lists.0, lists.1, gains before after lists.0 lists.2)
 
+pub show_plain_writes_a_listing : ShowPlainWritesAListing
+show_plain_writes_a_listing old new before after text shows known =
+    let lists = (of_text captures old new _ text shows.0 known).0 in
+    (lists.0, lists.1, gains before after lists.0 lists.2)
+
 pub lost_writes_the_lost_packets : LostWritesTheLostPackets
 lost_writes_the_lost_packets words old new before after text lists known =
+    let lines = (of_text captures old new _ text lists.0 known).0 in
+    (lines.0, lines.1, gains before after lines.0 lines.2)
+
+pub lost_with_spikes_writes_the_found_packets : LostWithSpikesWritesTheFoundPackets
+lost_with_spikes_writes_the_found_packets words limit old new before after text lists known =
     let lines = (of_text captures old new _ text lists.0 known).0 in
     (lines.0, lines.1, gains before after lines.0 lines.2)
 

@@ -26,6 +26,8 @@ use Rattle.dcc_saved.specs.TextRead.{ReadsValue, UsedWholeLines}
 use Rattle.dcc_saved.specs.TextReadOrNoMemory.{ReadFails}
 use Rattle.dcc_capture.specs.Shown.{Shows}
 use Rattle.dcc_listen.specs.LostListing.{ListsLost}
+use Rattle.dcc_listen.specs.SpikedListing.{ListsSpiked}
+use Rattle.dcc_listen.specs.PlainListing.{ShowsPlain}
 use Rattle.dcc_listen.specs.Timed.{Times}
 use Rattle.dcc_listen.specs.FleetRun.{Fleet, Runs}
 use Rattle.dcc_listen.specs.ComparedBoth.{ComparesBoth}
@@ -85,11 +87,21 @@ abbrev pub ShowsCapture : Bool → Streams → Result (Unit {0}) ToolFault → S
 ShowsCapture words old answer new =
     KeptOr old answer new (Shows words old.input old.writer answer new.input new.writer)
 
+-- `show_plain` has listed the capture in plain words, or `answer` is its error
+abbrev pub ShowsCapturePlain : Streams → Result (Unit {0}) ToolFault → Streams → Type 0
+ShowsCapturePlain old answer new = KeptOr old answer new (ShowsPlain old.input old.writer answer new.input new.writer)
+
 -- `lost` has listed the packets that are lost in the capture, with packet lines if `words` is true,
 -- or `answer` is its error
 abbrev pub ListsLostOfCapture : Bool → Streams → Result (Unit {0}) ToolFault → Streams → Type 0
 ListsLostOfCapture words old answer new =
     KeptOr old answer new (ListsLost words old.input old.writer answer new.input new.writer)
+
+-- `lost_with_spikes` has listed the packets that are found in the joined half-bits of the capture, or
+-- `answer` is its error. Half-bits shorter than `limit` are spikes.
+abbrev pub ListsSpikedOfCapture : Bool → ℕ → Streams → Result (Unit {0}) ToolFault → Streams → Type 0
+ListsSpikedOfCapture words limit old answer new =
+    KeptOr old answer new (ListsSpiked words limit old.input old.writer answer new.input new.writer)
 
 -- `timing` has written the statistics of the capture, or `answer` is its error
 abbrev pub TimesCapture : Streams → Result (Unit {0}) ToolFault → Streams → Type 0
@@ -187,7 +199,10 @@ ReadsTrack false cv old answer new = ReadsFromText cv old answer new
 -- The operation of the subcommand of a request was executed, and `result` is its result.
 abbrev pub Performs : Request → Streams → Result Ending ToolFault → Streams → Type 0
 Performs (request.Show words) old result new = Done result (λ answer. ShowsCapture words old answer new)
+Performs request.ShowPlain old result new = Done result (λ answer. ShowsCapturePlain old answer new)
 Performs (request.Lost words) old result new = Done result (λ answer. ListsLostOfCapture words old answer new)
+Performs (request.LostWithSpikes words limit) old result new =
+    Done result (λ answer. ListsSpikedOfCapture words limit old answer new)
 Performs (request.Encode how) old result new = Done result (λ answer. EncodesLines how old answer new)
 Performs request.Run old result new = Done result (λ answer. RunsText old answer new)
 Performs (request.Same who) old result new =

@@ -5,11 +5,14 @@ ghost use Rattle.dcc_tool.specs.EncodedShown.{PacketLinesAreShown};
 ghost use Rattle.dcc_tool.specs.ListedText.{ShowListsTheText};
 ghost use Rattle.dcc_tool.specs.StationShown.{StationPacketsAreShown};
 ghost use Rattle.dcc_tool.specs.Written.{EncodeWritesTheEncoding, RunWritesTheDecoders, ShowWritesTheListing};
-ghost use Rattle.dcc_tool.specs.Written.{LostWritesTheLostPackets, WhatWritesTheSentence};
+ghost use Rattle.dcc_tool.specs.Written.{LostWithSpikesWritesTheFoundPackets, LostWritesTheLostPackets};
+ghost use Rattle.dcc_tool.specs.Written.{WhatWritesTheSentence};
 ghost use Rattle.dcc_tool.specs.Written.{ReadcvWritesTheReading, SameInputWritesTheVerdict, SameWritesTheVerdict};
-ghost use Rattle.dcc_tool.specs.Written.{ShowWritesAListing, StationWritesItsAnswers, TimingWritesTheFigures};
+ghost use Rattle.dcc_tool.specs.Written.{ShowPlainWritesAListing, ShowWritesAListing, StationWritesItsAnswers};
+ghost use Rattle.dcc_tool.specs.Written.{TimingWritesTheFigures};
 
 pub use dcc_capture::laws::{outcomes_have_one_listing, without_words_the_listing_is_in_hex};
+pub use dcc_listen::laws::outcomes_have_one_plain_listing;
 pub use dcc_saved::laws::fleets_are_read_back;
 
 /// Theorem: `show` lists the packets that `encode` wrote as half-bits. Within the limits of `show`,
@@ -32,16 +35,20 @@ pub fn what_is_encoded_is_shown()
 /// Theorem: an operation that returns Ok has written exactly the following bytes, if the contracts
 /// of its reader and writer give their bytes.
 ///
-/// `show` writes a listing of the capture, with packet lines or with hexadecimal digits. `lost` writes
-/// the lines of the lost packets of the capture, with packet lines or with hexadecimal digits.
-/// `timing` writes the statistics of the capture. `encode` writes the encoding of the packets, or the
-/// answers of the station. `run` writes the decoder text of the fleet, which has heard the capture.
-/// `same` writes the line of the verdict. `readcv` writes the questions with their answers, and the
-/// value. `what` writes the sentence about its input.
+/// `show` writes a listing of the capture, with packet lines or with hexadecimal digits.
+/// `show_plain` writes a listing of the capture in plain words. `lost` writes the lines of the lost
+/// packets of the capture, with packet lines or with hexadecimal digits. `lost_with_spikes` writes
+/// the lines of the packets that are found in the joined half-bits. `timing` writes the statistics
+/// of the capture. `encode` writes the encoding of the packets, or the answers of the station.
+/// `run` writes the decoder text of the fleet, which has heard the capture. `same` writes the line
+/// of the verdict. `readcv` writes the questions with their answers, and the value. `what` writes
+/// the sentence about its input.
 pub fn what_calls_write()
     ensures show { ShowWritesTheListing }
     ensures show_words { ShowWritesAListing }
+    ensures show_plain { ShowPlainWritesAListing }
     ensures lost { LostWritesTheLostPackets }
+    ensures lost_with_spikes { LostWithSpikesWritesTheFoundPackets }
     ensures timing { TimingWritesTheFigures }
     ensures encode { EncodeWritesTheEncoding }
     ensures station { StationWritesItsAnswers }

@@ -7,7 +7,7 @@ ghost use Rattle.dcc_tool.specs.Performs.{Performs, ReadsTrack, RunsText};
 use crate::ending::Ending;
 use dcc_capture::show;
 use dcc_io::{Input, Sink, Source, ToolFault};
-use dcc_listen::{lost, run, same_input, timing};
+use dcc_listen::{lost, lost_with_spikes, run, same_input, show_plain, timing};
 use dcc_packet::CvNumber;
 use dcc_regs::{BoardState, Decoder, LocoState, PackedBoard, PackedLoco, Who};
 use dcc_saved::{Saved, read_decoders};
@@ -21,9 +21,16 @@ pub enum Request {
     /// The operation `show`: lists a capture, with packets as packet lines if `words` is true.
     Show { words: bool },
 
+    /// The operation `show_plain`: lists a capture in plain words.
+    ShowPlain,
+
     /// The operation `lost`: lists the packets of a capture that a decoder does not hear, as packet
     /// lines if `words` is true.
     Lost { words: bool },
+
+    /// The operation `lost_with_spikes`: lists the packets that a decoder does not hear, also those with
+    /// half-bits shorter than `limit` microseconds in them.
+    LostWithSpikes { words: bool, limit: u8 },
 
     /// The operation `encode`: writes the half-bits or the bytes of packet lines.
     Encode(Encode),
@@ -61,8 +68,16 @@ pub fn perform<R: Source, W: Sink>(
             show(input, writer, words)?;
             Ok(Ending::Done)
         }
+        Request::ShowPlain => {
+            show_plain(input, writer)?;
+            Ok(Ending::Done)
+        }
         Request::Lost { words } => {
             lost(input, writer, words)?;
+            Ok(Ending::Done)
+        }
+        Request::LostWithSpikes { words, limit } => {
+            lost_with_spikes(input, writer, words, limit)?;
             Ok(Ending::Done)
         }
         Request::Encode(how) => {

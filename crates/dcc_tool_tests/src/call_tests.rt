@@ -103,6 +103,16 @@ const SHOWN: &str = "\
     not even its first half | show | 58*28 100*2 70*5 |  | 31 67108864 |  |  | U7 input too long
     a bad word behind a packet | show | S/58x/ |  |  |  | 84 036261/ | U2 line 2: bad number";
 
+const SHOWN_PLAIN: &str = "\
+    behind the first read | plain | S_ | 512 1 again |  |  | 84 locomotive 3: step 1 of 28, forward/ | U4 read failed
+    within the last word | plain | S_ | 1 61 again |  |  |  | U4 read failed
+    a bad word | plain | S/58x/58/ |  |  |  | 84 locomotive 3: step 1 of 28, forward/ | U2 line 2: bad number | 2
+    a half too many | plain | S 58 |  | 84 1000 |  | 84 locomotive 3: step 1 of 28, forward/ | U7 input too long
+    the outcome of a run that fits | plain | 58*28 100*2 70*5 |  | 35 1000 |  | 31 refused H1/
+    the fourth write fails | plain | S 58x | 512 |  | 1 3 | 84_ | U5 write failed |  | U2 line 1: bad number
+    no byte is taken | plain | S 58x | 512 |  | 0 100 |  | U5 write failed |  | U2 line 1: bad number
+    a wrong error byte | plain | B/I |  |  |  | 84 refused H5 036260/168 nothing to do/";
+
 const TIMED: &str = "\
     at the first read | timing | S_ | 512 0 again |  |  |  | U4 read failed
     behind all bytes | timing | S_ | 1 62 again |  |  |  | U4 read failed
@@ -208,7 +218,7 @@ fn play(rt: &impl Abort, alloc: Global, row: &str, each: u32) -> Result<(), Fail
 
 #[test]
 fn calls(rt: HostRuntime) -> Result<(), Fail> {
-    for table in [SHOWN, TIMED, ENCODED, COMPARED, PLAYED] {
+    for table in [SHOWN, SHOWN_PLAIN, TIMED, ENCODED, COMPARED, PLAYED] {
         for row in table.lines() {
             if column(row, 3).is_empty() {
                 play(&rt, rt.alloc(), row, 1)?;

@@ -5,7 +5,7 @@ use crate::rows::number;
 use dcc_regs::{BoardDecoder, Decoder, LocoDecoder};
 use dcc_tool::{
     Counted, Encode, Input, Limits, Saved, Sink, Source, ToolFault, encode, read_decoders,
-    read_who, run, same, same_input, show, timing,
+    read_who, run, same, same_input, show, show_plain, timing,
 };
 use std::alloc::{AllocError, Global};
 use std::test::Fail;
@@ -19,6 +19,7 @@ pub const CAPTURE: &str = "58*28 100*14 58*4 100*4 58*4 100*6 58*2 100*6 58*4 10
 #[derive(Clone, Copy)]
 pub enum Call {
     Show { words: bool },
+    ShowPlain,
     Timing,
     Encode(Encode),
     Run,
@@ -38,11 +39,13 @@ pub fn hex(station: Option<(usize, usize, u8)>) -> Call {
     })
 }
 
-/// Returns the operation that a word names. The words are `show`, `timing`, `hex`, `run`, `station`
-/// (with 4 commands, 4 entries and one copy), and `both`, which is `same_input` for locomotive 3.
+/// Returns the operation that a word names. The words are `show`, `plain` (which is `show_plain`),
+/// `timing`, `hex`, `run`, `station` (with 4 commands, 4 entries and one copy), and `both`, which is
+/// `same_input` for locomotive 3.
 pub fn call_of(word: &str) -> Call {
     match word {
         "show" => Call::Show { words: false },
+        "plain" => Call::ShowPlain,
         "timing" => Call::Timing,
         "hex" => hex(None),
         "station" => hex(Some((4, 4, 1))),
@@ -87,6 +90,7 @@ impl Call {
     ) -> Result<Result<(), ToolFault>, Fail> {
         match self {
             Call::Show { words } => Ok(show(input, writer, *words)),
+            Call::ShowPlain => Ok(show_plain(input, writer)),
             Call::Timing => Ok(timing(input, writer)),
             Call::Encode(how) => Ok(encode(alloc, input, writer, *how)),
             Call::Run => play_fleet(alloc, input, writer),

@@ -27,7 +27,8 @@ const DASHES: &[u8] = b"58 58\n---  #c\n58 58\n";
 
 /// The output of `timing` for `CAPTURE`, which has two packets and one refusal.
 const FIGURES: &[u8] =
-    b"halves 252\ntime 18816\npackets 2\nrefused H1 0\nrefused H2 0\nrefused H3 0\nrefused H4 0\nrefused H5 1\ngap most 5796\n\
+    b"halves 252\ntime 18816\npackets 2\nrefused H1 0\nrefused H2 0\nrefused H3 0\nrefused H4 0\nrefused H5 1\n\
+    lost 0\npreamble least 28\ngap most 5796\n\
     ones count 152\nones least 58\nones most 58\nones mean 58.00\nones station 55 61\nones decoder 52 64\n\
     differences count 46\ndifferences least 0\ndifferences most 0\ndifferences mean 0.00\ndifferences station 3\ndifferences decoder 6\n\
     zeros count 100\nzeros least 100\nzeros most 100\nzeros mean 100.00\nzeros station 95 9900\nzeros decoder 90 10000\n\
@@ -39,7 +40,7 @@ const FIGURES: &[u8] =
 /// An operation, its input, and the output that it must write.
 type Played = (Call, &'static [u8], &'static [u8]);
 
-fn calls() -> [Played; 9] {
+fn calls() -> [Played; 10] {
     [
         (
             Call::Show { words: false },
@@ -50,6 +51,11 @@ fn calls() -> [Played; 9] {
             Call::Show { words: true },
             CAPTURE.as_bytes(),
             b"84 loco s3 speed28 f 4\n168 idle\n252 refused H5 036260\n",
+        ),
+        (
+            Call::ShowPlain,
+            CAPTURE.as_bytes(),
+            b"84 locomotive 3: step 1 of 28, forward\n168 nothing to do\n252 refused H5 036260\n",
         ),
         (Call::Timing, CAPTURE.as_bytes(), FIGURES),
         (hex(None), LINES, b"036261\nff00ff\nc3e8ec1c06dd\n"),
@@ -69,11 +75,11 @@ fn calls() -> [Played; 9] {
     ]
 }
 
-/// Returns true for `show` and `encode`. If the input has an error, `show` and `encode` write the
-/// results of the input before the error. All other operations then write nothing.
+/// Returns true for `show`, `show_plain` and `encode`. If the input has an error, these operations
+/// write the results of the input before the error. All other operations then write nothing.
 fn lists_up_to_a_fault(call: Call) -> bool {
     match call {
-        Call::Show { .. } | Call::Encode(_) => true,
+        Call::Show { .. } | Call::ShowPlain | Call::Encode(_) => true,
         Call::Timing | Call::Run | Call::Same | Call::SameInput => false,
     }
 }

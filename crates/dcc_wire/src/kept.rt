@@ -76,7 +76,7 @@ impl KeptFramer {
     ghost use Rattle.std.specs.Prelude.{◌≡◌, ◌≢◌, ◌↔◌, ℕ, List, ◌++◌, [], ◌∷◌, Some, length, IsTrue, true, false};
     ghost use Rattle.dcc_wire.specs.Half.{bit_of};
     ghost use Rattle.dcc_wire.specs.Outcomes.{ones_left};
-    ghost use Rattle.dcc_wire.specs.Framing.{Hunting, InBody, StandsFor, seen, report_at};
+    ghost use Rattle.dcc_wire.specs.Framing.{Hunting, InBody, StandsFor, is_hunting, seen, report_at};
     ghost use Rattle.dcc_wire.specs.Inner.Steps.{rest_after, answer_to};
     ghost use Rattle.dcc_wire.specs.Inner.KeptSteps.{Grows, HasRoomFor};
     ghost use Rattle.dcc_wire.specs.declared.half.Half.{Half as HalfOf};
@@ -270,6 +270,14 @@ impl KeptFramer {
             return Seen::Refused(Fault::TooLong);
         }
         Seen::at_end_bit(&self.bytes, self.xor)
+    }
+
+    /// Returns true if the framer is between bodies: it counts half-bits of ones.
+    #[inline(always)]
+    pub fn is_hunting(&self) -> bool
+        ensures { result ≡ is_hunting (kept_rest self.now) }
+    {
+        !self.in_body
     }
 
     /// Returns the framer with this state. The framer represents the lists of half-bits that the

@@ -1,40 +1,72 @@
-use Rattle.std.proofs.Common.{◌≡◌, ◌+◌, ◌<◌, ◌≤◌, ℕ, List, [], ◌∷◌, ◌++◌, length, take, drop, refl, sym, ap, ◌∙◌, arith}
-use Rattle.std.proofs.Common.{append_assoc}
-use Rattle.std.proofs.Math.ListN.{set}
-use Rattle.std.proofs.lemmas.List.{take_more_set, drop-drop, drop-set-lt, length-set}
-use Rattle.dcc_wire.specs.HalvesLeft.{halves_left}
+use Rattle.std.proofs.Common.{◌≡◌, ◌+◌, ◌-◌, suc, ◌∷◌, ◌++◌, [], true, false, get_or, take, drop, replicate, refl}
+use Rattle.std.proofs.Common.{ap, ◌∙◌, arith}
+use Rattle.dcc_wire.specs.Bodies.{bits_of, body_bits}
+use Rattle.dcc_wire.specs.Sending.{durations_of, sent, sent_bits}
+use Rattle.dcc_c.proofs.HalvesLemmas.{durations_behind, same_behind, byte_first, end_bit}
 use Rattle.dcc_c.proofs.halves.put_halves.Goals as goal
 
--- two numbers are written behind a front
-two_written : (xs left : List ℕ) (n a b : ℕ) → n + 2 ≤ length xs
-    → take (n + 2) (set (set xs n a) (n + 1) b) ++ left ≡ take n xs ++ (a ∷ b ∷ left)
-two_written xs left n a b room =
-    let e : n + 2 ≡ (n + 1) + 1 = omega arith in
-    let longer : n + 1 < length (set xs n a) = omega (arith, room, length-set xs n a) in
-    ap (λ k. take k (set (set xs n a) (n + 1) b) ++ left) e
-    ∙ ap (λ l. l ++ left) (take_more_set (set xs n a) (n + 1) b longer)
-    ∙ ap (λ l. (l ++ b ∷ []) ++ left) (take_more_set xs n a (omega (arith, room)))
-    ∙ append_assoc (take n xs ++ a ∷ []) (b ∷ []) left ∙ append_assoc (take n xs) (a ∷ []) (b ∷ left)
+pub loop-init : goal.loop-init
+unfolding sent sent_bits
+loop-init c =
+    let timing = c.args.timing.now in
+    let whole : timing.preamble - 0 ≡ timing.preamble = omega arith in
+    record {
+      written = ap (λ n. durations_of timing (replicate n true ++ body_bits c.args.frame.now)) whole;
+      count = refl;
+      behind = refl;
+    }
 
--- and what stands behind stays
-two_behind : (xs ys : List ℕ) (n a b : ℕ) → drop n xs ≡ drop n ys
-    → drop (n + 2) (set (set xs n a) (n + 1) b) ≡ drop (n + 2) ys
-two_behind xs ys n a b same =
-    drop-set-lt (n + 2) (set xs n a) (n + 1) b (omega arith) ∙ drop-set-lt (n + 2) xs n a (omega arith)
-    ∙ sym (drop-drop 2 n xs) ∙ ap (drop 2) same ∙ drop-drop 2 n ys
-
-pub bits-preserved : goal.bits-preserved
-bits-preserved c =
-    let n = c.bits.count in
-    let left = halves_left c.take_bit.new.self in
-    let told : halves_left c.bits.left ≡ c.in-Some.first ∷ c.in-Some.second ∷ left = c.in-Some.ensures.bit in
-    let room : n + 2 + length left ≤ 190 = omega (arith, ap length told, c.bits.invariant.room) in
+pub loop-preserved : goal.loop-preserved
+loop-preserved c =
+    let timing = c.args.timing.now in
+    let body = body_bits c.args.frame.now in
+    let front = take c.loop.count c.loop.halves in
+    let left = timing.preamble - (c.loop.counter + 1) in
+    let one_more : suc left ≡ timing.preamble - c.loop.counter = omega (arith, c.loop-test.true) in
+    let call = c.put_bit-count in
     record {
       written =
-          two_written c.bits.halves left n c.in-Some.first c.in-Some.second (omega (arith, room, c.bits.invariant.long))
-          ∙ ap (λ l. take n c.bits.halves ++ l) (sym told) ∙ c.bits.invariant.written;
-      behind = two_behind c.bits.halves c.args.halves.now n c.in-Some.first c.in-Some.second c.bits.invariant.behind;
-      room = room;
-      long = length-set (set c.bits.halves n c.in-Some.first) (n + 1) c.in-Some.second
-          ∙ length-set c.bits.halves n c.in-Some.first ∙ c.bits.invariant.long;
+          ap (λ s. s ++ durations_of timing (replicate left true ++ body)) call.ensures.written
+          ∙ durations_behind timing front (true ∷ []) (replicate left true ++ body)
+          ∙ ap (λ n. front ++ durations_of timing (replicate n true ++ body)) one_more
+          ∙ c.loop.invariant.written;
+      count = omega (arith, call.ensures.count, c.loop.invariant.count);
+      behind =
+          call.ensures.behind
+          ∙ same_behind c.loop.halves c.args.halves.now c.loop.count call.result
+          (omega (arith, call.ensures.count)) c.loop.invariant.behind;
     }
+
+pub loop-byte-preserved : goal.loop-byte-preserved
+loop-byte-preserved c =
+    let timing = c.args.timing.now in
+    let frame = c.args.frame.now in
+    let i = c.loop-byte.byte-index in
+    let front = take c.loop-byte.count c.loop-byte.halves in
+    let later = body_bits (drop (i + 1) frame) in
+    let call = c.put_byte-count in
+    record {
+      written =
+          ap (λ s. s ++ durations_of timing later) call.ensures.written
+          ∙ durations_behind timing front (false ∷ bits_of 8 (get_or frame i 0)) later
+          ∙ ap (λ bits. front ++ durations_of timing bits) (byte_first frame i c.loop-byte-test.true)
+          ∙ c.loop-byte.invariant.written;
+      count = omega (arith, call.ensures.count, c.loop-byte.invariant.count);
+      behind =
+          call.ensures.behind
+          ∙ same_behind c.loop-byte.halves c.args.halves.now c.loop-byte.count call.result
+          (omega (arith, call.ensures.count)) c.loop-byte.invariant.behind;
+    }
+
+pub returns-clause-halves : goal.returns-clause-halves
+returns-clause-halves c =
+    c.put_bit-len.ensures.written
+    ∙ ap (λ bits. take c.loop-byte.count c.loop-byte.halves ++ durations_of c.args.timing.now bits)
+    (end_bit c.args.frame.now c.loop-byte.byte-index (omega (arith, c.loop-byte-test.false)))
+    ∙ c.loop-byte.invariant.written
+
+pub returns-clause-behind : goal.returns-clause-behind
+returns-clause-behind c =
+    c.put_bit-len.ensures.behind
+    ∙ same_behind c.loop-byte.halves c.args.halves.now c.loop-byte.count c.put_bit-len.result
+    (omega (arith, c.put_bit-len.ensures.count)) c.loop-byte.invariant.behind

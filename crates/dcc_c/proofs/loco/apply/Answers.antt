@@ -1,64 +1,47 @@
-use Rattle.std.proofs.Common.{◌≡◌, refl, ◌∙◌, ap}
-use Rattle.dcc_regs.specs.declared.loco_state.LocoState.{LocoState}
-use Rattle.dcc_regs.specs.LocoRegisters.{with_cvs}
-use Rattle.dcc_regs.specs.LocoState.{is_state, loco_map, loco_who}
-use Rattle.dcc_c.specs.declared.loco_numbers.DccLoco.{DccLoco}
-use Rattle.dcc_c.specs.declared.loco_numbers.DccLocoRegisters.{DccLocoRegisters}
-use Rattle.dcc_c.proofs.ApplyLemmas.{applied, same_state, left_spells}
+use Rattle.std.proofs.Common.{◌≡◌, true, false, refl, sym, ◌∙◌, ap}
+use Rattle.std.specs.Prelude.{Option}
+use Rattle.dcc_packet.specs.declared.address.Address.{Address}
+use Rattle.dcc_regs.specs.declared.register.Who.TheVariants.{Loco as LocoWho}
+use Rattle.dcc_regs.specs.Heard.{hears}
+use Rattle.dcc_c.proofs.ApplyLemmas.{same_ok}
+use Rattle.dcc_c.proofs.HeardLemmas.{state_address, state_of_numbers, unheard_has_applied}
 use Rattle.dcc_c.proofs.loco.apply.Goals as goal
 
-pub pending_left-pending-requires : goal.pending_left-pending-requires
-pending_left-pending-requires c =
-    left_spells c.read-packet.result c.apply.new.self.pending c.args.frame.now c.read-packet.ensures.spelled
-    (c.apply.ensures.pending c.if-apply.true)
+pub returns-then-not-loco_hears_frame-clause-decoder : goal.returns-then-not-loco_hears_frame-clause-decoder
+returns-then-not-loco_hears_frame-clause-decoder c applied =
+    let r = c.are_possible.ensures.possible c.if-not-are_possible.false c.in-Ok.own c.in-Ok.ensures.address in
+    state_of_numbers c.args.loco.now r.0 r.1 r.2
 
-pub returns-then-apply-clause-decoder : goal.returns-then-apply-clause-decoder
-returns-then-apply-clause-decoder c heard = (
-  with_cvs c.take_up.new.registers c.args.loco.now.cvs,
-  c.take_up.ensures.possible c.if-not-take_up.false c.args.loco.now.cvs,
-  ap (λ (r : DccLocoRegisters). record c.args.loco.now { registers = r })
-      (c.take_up.ensures.numbers c.if-not-take_up.false),
-)
+pub returns-clause-decoder : goal.returns-clause-decoder
+returns-clause-decoder c applied =
+    let r = c.are_possible.ensures.possible c.if-not-are_possible.false c.in-Ok.own c.in-Ok.ensures.address in
+    state_of_numbers c.args.loco.now r.0 r.1 r.2
 
-pub returns-else-apply-clause-decoder : goal.returns-else-apply-clause-decoder
-returns-else-apply-clause-decoder c heard = (
-  with_cvs c.take_up.new.registers c.args.loco.now.cvs,
-  c.take_up.ensures.possible c.if-not-take_up.false c.args.loco.now.cvs,
-  ap (λ (r : DccLocoRegisters). record c.args.loco.now { registers = r })
-      (c.take_up.ensures.numbers c.if-not-take_up.false),
-)
+pub returns-then-not-loco_hears_frame-clause-applies : goal.returns-then-not-loco_hears_frame-clause-applies
+returns-then-not-loco_hears_frame-clause-applies c before possible e =
+    let own : c.in-Ok.own ≡ before.address =
+    same_ok c.in-Ok.own before.address c.own_address.result c.in-Ok.is
+    (c.own_address.ensures.found before.address (state_address before c.args.loco.now possible e)) in
+    let p = c.each_frame_is_a_packet.ensures in
+    let unheard : hears (LocoWho before.address) p.0 ≡ false =
+    ap (λ (own : Option Address). hears (LocoWho own) p.0) (sym own)
+    ∙ sym (c.loco_hears_frame.ensures p.0 p.1) ∙ c.if-not-loco_hears_frame.true in
+    (p.0, before, p.1, possible, e, refl, unheard_has_applied p.0 before unheard)
 
-pub returns-then-apply-clause-applies : goal.returns-then-apply-clause-applies
-returns-then-apply-clause-applies c before possible e =
-    let was : with_cvs c.take_up.new.registers c.args.loco.now.cvs ≡ before =
-    same_state c.take_up.new.registers c.args.loco.now before
-    (c.take_up.ensures.found before possible (ap (λ (l : DccLoco). l.registers) e)).1 e in
-    let a = c.apply.ensures in (
-      c.read-packet.result,
-      with_cvs c.apply.new.self c.apply.new.cvs,
-      c.read-packet.ensures.spelled,
-      a.possible (ap is_state was ∙ possible),
-      ap (λ (r : DccLocoRegisters). record c.args.loco.now { registers = r; cvs = c.apply.new.cvs }) c.put.ensures,
-      refl,
-      applied c.read-packet.result _ _ _ _ _ _ _ _ (ap loco_who was) refl (ap loco_map was) refl
-          (record { same_who = a.same_who; step = a.step; unheard = a.unheard; kept = a.kept }),
-    )
+pub returns-clause-applies : goal.returns-clause-applies
+returns-clause-applies c before possible e =
+    let own : c.in-Ok.own ≡ before.address =
+    same_ok c.in-Ok.own before.address c.own_address.result c.in-Ok.is
+    (c.own_address.ensures.found before.address (state_address before c.args.loco.now possible e)) in
+    let h = c.hear.ensures in
+    let a = h.2 before possible
+    (ap (λ (own : Option Address). hears (LocoWho own) h.0) (sym own)
+    ∙ sym (c.loco_hears_frame.ensures h.0 h.1) ∙ c.if-not-loco_hears_frame.false) e in
+    (h.0, a.0, h.1, a.1, a.2, refl, a.3)
 
-pub returns-else-apply-clause-applies : goal.returns-else-apply-clause-applies
-returns-else-apply-clause-applies c before possible e =
-    let was : with_cvs c.take_up.new.registers c.args.loco.now.cvs ≡ before =
-    same_state c.take_up.new.registers c.args.loco.now before
-    (c.take_up.ensures.found before possible (ap (λ (l : DccLoco). l.registers) e)).1 e in
-    let a = c.apply.ensures in
-    let stays : with_cvs c.apply.new.self c.apply.new.cvs ≡ with_cvs c.take_up.new.registers c.args.loco.now.cvs =
-    a.stays c.if-apply.false in (
-      c.read-packet.result,
-      before,
-      c.read-packet.ensures.spelled,
-      possible,
-      ap (λ (s : LocoState). record c.args.loco.now { cvs = s.cvs }) stays ∙ e,
-      refl,
-      applied c.read-packet.result _ _ _ _ _ _ _ _ (ap loco_who was) (ap loco_who (stays ∙ was)) (ap loco_map was)
-          (ap loco_map (stays ∙ was))
-          (record { same_who = a.same_who; step = a.step; unheard = a.unheard; kept = a.kept }),
-    )
+pub hear-requires-clause-other : goal.hear-requires-clause-other
+hear-requires-clause-other c same =
+    let is : c.is_of.result ≡ true = c.is_of.ensures.1 same in
+    let not : c.is_of.result ≡ false = c.if-is_of.false in
+    let apart : true ≡ false = sym is ∙ not in
+    cc

@@ -1,8 +1,9 @@
+use Rattle.dcc_timing.specs.Measures.{Measures}
 use Rattle.dcc_listen.proofs.TimingLemmas.{Measuring}
 use Rattle.dcc_listen.proofs.timing_call.measure.Given as goal
 
 abbrev pub invariant-runs : goal.invariant-runs
-invariant-runs g l = Measuring l.initial.input l.input l.timings
+invariant-runs g l = Measuring l.initial.input l.input (Measures l.timings)
 
 abbrev pub decreases-runs : goal.decreases-runs
 decreases-runs g l = l.input.bytes

@@ -1,4 +1,4 @@
-use Rattle.std.proofs.Common.{◌≡◌, false, arith}
+use Rattle.std.proofs.Common.{arith}
 use Rattle.dcc_lost.proofs.FrameLemmas.{few_ones, framed, no_start_after}
 use Rattle.dcc_lost.proofs.bodies.frame_after_ones.Goals as goal
 

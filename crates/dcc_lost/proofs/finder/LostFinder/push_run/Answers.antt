@@ -1,17 +1,22 @@
-use Rattle.std.proofs.Common.{ap, ◌∙◌, ◌≡◌, ◌+◌, ◌++◌, List, ℕ, None, replicate, arith, subst, sym}
+use Rattle.std.proofs.Common.{ap, ◌∙◌, ◌≡◌, ◌+◌, ◌-◌, ◌++◌, IsTrue, List, ℕ, None, replicate, arith, subst, sym}
 use Rattle.dcc_lost.specs.Causes.{packets_lost}
-use Rattle.dcc_lost.specs.Finding.{HasRead}
+use Rattle.dcc_timing.specs.Recent.{recent_numbers}
+use Rattle.dcc_lost.specs.Finding.{HasRead, heard_state}
+use Rattle.dcc_lost.proofs.StillLemmas.{still_reads, still_quiet}
 use Rattle.dcc_lost.proofs.RunLemmas.{run_more, run_grows, run_quiet, run_ends, run_none, run_split}
 use Rattle.dcc_lost.proofs.finder.LostFinder.push_run.Goals.{After-push-lost}
 use Rattle.dcc_lost.proofs.finder.LostFinder.push_run.Goals as goal
 
 -- after one more half-bit of the run
 read_next : (c : After-push-lost) (durations : List ℕ)
-    → HasRead c.args.self.now.heard c.args.self.now.recent c.args.self.now.unused durations
-    → HasRead c.push-lost.new.self.heard c.push-lost.new.self.recent c.push-lost.new.self.unused
+    → HasRead (heard_state c.args.self.now.heard) (recent_numbers c.args.self.now.recent)
+    (recent_numbers c.args.self.now.unused) durations
+    → HasRead (heard_state c.push-lost.new.self.heard) (recent_numbers c.push-lost.new.self.recent)
+    (recent_numbers c.push-lost.new.self.unused)
     (durations ++ replicate (c.run.at + 1) c.args.us)
 read_next c durations read =
-    subst (λ l. HasRead c.push-lost.new.self.heard c.push-lost.new.self.recent c.push-lost.new.self.unused l)
+    subst (λ l. HasRead (heard_state c.push-lost.new.self.heard) (recent_numbers c.push-lost.new.self.recent)
+    (recent_numbers c.push-lost.new.self.unused) l)
     (run_more durations c.args.us c.run.at)
     (c.push-lost.ensures.reads (durations ++ replicate c.run.at c.args.us) (c.run.invariant.reads durations read))
 
@@ -47,7 +52,8 @@ returns-clause-grows c =
 
 -- the list before the rest of the run
 quiet_next : (c : goal.After-push-lost) (durations : List ℕ) → c.push-lost.result ≡ None
-    → HasRead c.args.self.now.heard c.args.self.now.recent c.args.self.now.unused durations
+    → HasRead (heard_state c.args.self.now.heard) (recent_numbers c.args.self.now.recent)
+    (recent_numbers c.args.self.now.unused) durations
     → packets_lost (durations ++ replicate (c.run.at + 1) c.args.us) ≡ packets_lost durations
 quiet_next c durations none read =
     run_quiet durations c.args.us (c.run.at + 1) _ _ none
@@ -56,15 +62,20 @@ quiet_next c durations none read =
 
 pub returns-then-is_still-clause-reads : goal.returns-then-is_still-clause-reads
 returns-then-is_still-clause-reads c = λ durations read.
-    subst (λ l. HasRead c.skip.new.self.heard c.skip.new.self.recent c.skip.new.self.unused l)
+    let step = (goal.at.returns-then-is_still-clause-reads c).After-push-lost in
+    let yes : IsTrue c.is_still.result = grind arith in
+    subst (λ l. HasRead (heard_state c.push-lost.new.self.heard) (recent_numbers c.push-lost.new.self.recent)
+    (recent_numbers c.push-lost.new.self.unused) l)
     (run_split durations c.args.us (c.run.at + 1) c.args.n (omega arith))
-    (c.skip.ensures.reads (durations ++ replicate (c.run.at + 1) c.args.us)
-    (read_next (goal.at.returns-then-is_still-clause-reads c).After-push-lost durations read))
+    (still_reads _ _ _ (durations ++ replicate (c.run.at + 1) c.args.us) c.args.us (c.args.n - (c.run.at + 1))
+    (read_next step durations read) (c.is_still.ensures.0 yes))
 
 pub returns-then-is_still-clause-grows : goal.returns-then-is_still-clause-grows
 returns-then-is_still-clause-grows c = λ durations read.
     let step = (goal.at.returns-then-is_still-clause-grows c).After-push-lost in
+    let yes : IsTrue c.is_still.result = grind arith in
     run_ends durations c.args.us c.args.n _
     (ap packets_lost (sym (run_split durations c.args.us (c.run.at + 1) c.args.n (omega arith)))
-    ∙ c.skip.ensures.quiet (durations ++ replicate (c.run.at + 1) c.args.us) (read_next step durations read)
+    ∙ still_quiet _ _ _ (durations ++ replicate (c.run.at + 1) c.args.us) c.args.us (c.args.n - (c.run.at + 1))
+    (read_next step durations read) (c.is_still.ensures.0 yes)
     ∙ quiet_next step durations (grind arith) read)

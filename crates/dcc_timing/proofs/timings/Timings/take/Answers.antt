@@ -10,13 +10,15 @@ use Rattle.dcc_timing.specs.KeptGaps.{AreGaps}
 use Rattle.dcc_timing.proofs.MeasureLemmas.{bits_run, ends_run, length_run, run_on, some_half, time_run}
 use Rattle.dcc_timing.specs.Measured.{AreMeasured}
 use Rattle.dcc_timing.specs.Measures.{Measures}
+use Rattle.dcc_timing.specs.Recent.{recent_numbers}
 use Rattle.dcc_timing.proofs.timings.Timings.take.Goals.{After-from-4}
 use Rattle.dcc_timing.proofs.timings.Timings.take.Goals as goal
 
 -- the list with these half-bits at its end is measured, for each list that was
 measured : (c : After-from-4) (halves : List ℕ) → Measures c.args.self.now halves
     → AreMeasured (c.args.self.now.halves + c.args.n) (c.args.self.now.time + c.from-3.result * c.from-4.result)
-    c.add.new.self c.add-2.new.self c.add-3.new.self c.push_run-shown.new.self c.take-2.new.self
+    c.add.new.self c.add-2.new.self c.add-3.new.self c.push_run-shown.new.self
+    (recent_numbers c.take-2.new.self)
     (halves ++ replicate c.args.n c.args.us)
 measured c halves are =
     let us = c.args.us in
@@ -34,7 +36,8 @@ measured c halves are =
       outcomes = subst (λ (l : List (ℕ × Seen)). AreOutcomes c.add-2.new.self l) (sym shows)
           (c.add-2.ensures.outcomes (seen halves) (length halves + at - 1) are.outcomes);
       bits = subst (λ (l : List (ℕ × ℕ)). AreBits c.add-3.new.self.bits l)
-          (sym (bits_run halves us n at shown here.0 here.1 shows c.take.new.self recent c.add-3.ensures.few))
+          (sym (bits_run halves us n at shown here.0 here.1 shows (recent_numbers c.take.new.self) recent
+          c.add-3.ensures.few))
           (c.add-3.ensures.bits (packet_bits_in halves) are.bits);
       gaps = subst (λ (l : List ℕ). AreGaps c.add-3.new.self.gaps l)
           (sym (ends_run halves us n at shown here.0 here.1 shows _

@@ -1,0 +1,135 @@
+//! The operation `show_plain`, which lists a capture in plain words.
+ghost use Rattle.std.specs.Prelude.{◌≡◌, ◌<◌, ◌+◌, ◌++◌, ℕ, List, None, IfSome, false};
+ghost use Rattle.dcc_wire.specs.Framing.{report_at};
+ghost use Rattle.dcc_io.specs.Faults.{as_tool_fault};
+ghost use Rattle.dcc_io.specs.Held.{HoldsOrFails};
+ghost use Rattle.dcc_io.specs.InputState.{ReadHasFailure};
+ghost use Rattle.dcc_capture.specs.HeldRuns.{HoldsLines};
+ghost use Rattle.dcc_capture.specs.Listing.{IsLine};
+ghost use Rattle.dcc_listen.specs.PlainListing.{IsPlainLine, ShowsPlain};
+
+use crate::plain_words::{PlainLine, append_plain_words};
+use dcc_capture::{next_listed_run, outcome_line, write_rest};
+use dcc_io::inputs::take_buffered_half;
+use dcc_io::{Failed, HeldLines, Input, Sink, Source, ToolFault, append, append_decimal};
+use dcc_wire::{Frame, Framer, Seen};
+
+/// Writes a line for each outcome of a capture, with packets in plain words. The line begins with the
+/// number of the last half-bit of the outcome, counted from 1.
+///
+/// A line has the speed steps, functions, turnouts or CVs of the packet, for example `84 locomotive
+/// 3: step 1 of 28, forward`. A frame in no row of the table of packets can be a service packet, and
+/// has the words of this packet, for example `84 on a programming track: CV1 := 10`. Any other frame
+/// has its packet line, for example `84 frame 010203040501`. The line of a refusal is the line that
+/// `show` writes. The function writes a complete line before it reads more input.
+///
+/// Errors: U2 at a word that is no run. U4 if a read fails. U7 if the input exceeds a limit. U5 if
+/// a write fails. After U2, U4 or U7 the listing of the capture before the error was written, and
+/// `input` stores the error. After U5 a prefix of the listing was written. If an error of the
+/// capture was found before the write failed, `input` stores this error.
+pub fn show_plain<R: Source, W: Sink>(input: &mut Input<R>, writer: &mut W) -> Result<(), ToolFault>
+    // If an error is stored, the function returns this error, and reads and writes nothing.
+    ensures kept { IfSome input.old.fault
+        (λ fault. (result ≡ Err (as_tool_fault fault)) × (input.new ≡ input.old) × (writer.new ≡ writer.old)) }
+    ensures cause { ReadHasFailure input.old.fault input.old.failures }
+
+    // If no error is stored, the function writes the listing of the capture up to the first error.
+    ensures shows { input.old.fault ≡ None
+        → ShowsPlain input.old (W.state writer.old) result
+        input.new (W.state writer.new) }
+{
+    if let Some(fault) = input.fault() {
+        return Err(ToolFault::from(fault));
+    }
+    list(input, writer)
+}
+
+/// Writes the listing of a capture, up to the first error.
+fn list<R: Source, W: Sink>(input: &mut Input<R>, writer: &mut W) -> Result<(), ToolFault>
+    requires { input.old.fault ≡ None }
+    ensures { ShowsPlain input.old (W.state writer.old) result input.new (W.state writer.new) }
+{
+    let most = input.halves_left();
+    let mut framer = Framer::new();
+    let mut held = HeldLines::new();
+    'runs: loop {
+        match take_buffered_half(input) {
+            Some(us) => {
+                let seen = framer.push(us);
+                let half = most - input.halves_left();
+                hold_seen(&mut held, half, &seen, writer)?;
+            }
+            None => match next_listed_run(input, &mut held, writer)? {
+                Ok(Some(run)) => {
+                    let shown = framer.push_run(run.us, run.n);
+                    let half = most - input.halves_left() - run.n + shown.at;
+                    hold_seen(&mut held, half, &shown.seen, writer)?;
+                }
+                Ok(None) => return write_rest(&mut held, writer, Ok(())),
+                Err(fault) => return write_rest(&mut held, writer, Err(ToolFault::from(fault))),
+            },
+        }
+    }
+}
+
+/// Appends a line to the buffer if an outcome ends with the half-bit with the number `half`.
+#[tactic(auto, unfolding(dcc_wire::specs::Framing::report_at))]
+fn hold_seen<W: Sink>(
+    held: &mut HeldLines,
+    half: u32,
+    seen: &Seen,
+    writer: &mut W,
+) -> Result<(), Failed>
+    requires { 0 < half }
+    ensures { (place : ℕ) → half ≡ place + 1
+        → HoldsLines IsPlainLine (report_at place seen.now) (W.state writer.old)
+        held.old result held.new (W.state writer.new) }
+{
+    match seen {
+        Seen::Nothing => Ok(()),
+        Seen::Packet(frame) => hold_packet(held, half, frame, writer),
+        Seen::Refused(_) => hold_refusal(held, half, seen, writer),
+    }
+}
+
+/// Appends the line of the packet that ends with the half-bit with the number `half` to the buffer.
+fn hold_packet<W: Sink>(
+    held: &mut HeldLines,
+    half: u32,
+    frame: &Frame,
+    writer: &mut W,
+) -> Result<(), Failed>
+    ensures { (text : List ℕ) × IsPlainLine half (Seen.Packet frame.now) text
+        × HoldsOrFails (W.state writer.old) (held.old ++ text) result held.new
+        (W.state writer.new) }
+{
+    held.hold(plain_line(half, frame).as_slice(), writer)
+}
+
+/// Appends the line of the refusal that ends with the half-bit with the number `half` to the buffer.
+fn hold_refusal<W: Sink>(
+    held: &mut HeldLines,
+    half: u32,
+    seen: &Seen,
+    writer: &mut W,
+) -> Result<(), Failed>
+    ensures { (text : List ℕ) × IsLine false half seen.now text
+        × HoldsOrFails (W.state writer.old) (held.old ++ text) result held.new
+        (W.state writer.new) }
+{
+    held.hold(outcome_line(half, seen, false).as_slice(), writer)
+}
+
+/// Returns the line of a packet. The parameter `half` is the number of the last half-bit of the
+/// packet, counted from 1.
+#[tactic(auto, using(dcc_io::proofs::DecimalLemmas::decimal_is_short))]
+fn plain_line(half: u32, frame: &Frame) -> PlainLine
+    ensures { IsPlainLine half (Seen.Packet frame.now) result.items }
+{
+    let mut line = PlainLine::new();
+    append_decimal(&mut line, half);
+    append(&mut line, b" ");
+    append_plain_words(&mut line, frame);
+    append(&mut line, b"\n");
+    line
+}

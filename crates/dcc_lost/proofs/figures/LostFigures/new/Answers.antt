@@ -1,0 +1,10 @@
+use Rattle.std.proofs.Common.{[]}
+use Prim.{∣◌∣₁}
+use Rattle.dcc_lost.proofs.FigureLemmas.{none_measured}
+use Rattle.dcc_lost.proofs.figures.LostFigures.new.Goals as goal
+
+pub returns : goal.returns
+returns c = none_measured _ _ c.new.ensures c.new-2.ensures
+
+pub invariant_of-result : goal.invariant_of-result
+invariant_of-result c = record { history = ∣ ([], none_measured _ _ c.new.ensures c.new-2.ensures) ∣₁ }
