@@ -1,7 +1,7 @@
 /* SPDX-License-Identifier: MIT OR Apache-2.0
  *
- * Digital Command Control (DCC) for C and C++. The library finds packets and lost packets in half-bits, reads and sends
- * packets, simulates decoders, reads CVs, and runs a command station.
+ * Digital Command Control (DCC) for C and C++. The library finds packets and lost packets in half-bits, computes the
+ * statistics of a track, reads and sends packets, simulates decoders, reads CVs, and runs a command station.
  *
  * Each function reads and writes only its arguments, allocates nothing, has no state of its own, and returns. The
  * library is proved (docs/C.md). The code that calls the library is not proved. The caller must obey these rules,
@@ -9,10 +9,11 @@
  *
  * - An object comes from a function whose name ends in _new, _power_up or _start, or is a complete copy of an object
  *   from one of these functions.
- * - A dcc_framer, a dcc_lost, a dcc_sender and a dcc_station are opaque: do not write to their fields. If all bytes are
- *   zero, a dcc_framer and a dcc_lost are new, a dcc_sender has no half-bit left, and a dcc_station accepts no command.
- * - A dcc_lost is all zeros before its first dcc_lost_new, a dcc_sender before its first dcc_sender_start, and a
- *   dcc_station before its first dcc_station_new.
+ * - A dcc_framer, a dcc_lost, a dcc_meter, a dcc_sender and a dcc_station are opaque: do not write to their fields. If
+ *   all bytes are zero, a dcc_framer, a dcc_lost and a dcc_meter are new, a dcc_sender has no half-bit left, and a
+ *   dcc_station accepts no command.
+ * - A dcc_lost is all zeros before its first dcc_lost_new, a dcc_meter before its first dcc_meter_new, a dcc_sender
+ *   before its first dcc_sender_start, and a dcc_station before its first dcc_station_new.
  * - The fields of all other objects may be read and changed. A function returns 13 if the fields that it reads are
  *   impossible for a decoder or a reading. The fields of a dcc_timing may have any values. A bool is 0 or 1.
  * - Pointers are not null, are aligned, and point to as many items as the function says. A pointer is not null even
@@ -167,6 +168,54 @@ uint8_t dcc_lost_push(dcc_lost *finder, uint16_t us, dcc_lost_packet *packet);
  * this half-bit, counted from 1: the function then took this number of half-bits. Otherwise takes all n half-bits,
  * returns 0 and leaves *packet unchanged. */
 uint32_t dcc_lost_push_run(dcc_lost *finder, uint16_t us, uint32_t n, dcc_lost_packet *packet);
+
+/* ---- statistics of a track (NMRA S-9.1, S-9.2) ---- */
+
+/* A meter, which computes the statistics that `dcc timing` writes (docs/FORMATS.md). The struct is opaque: do not read
+ * or write its fields. Before its first dcc_meter_new, a meter must be all zeros, as in `static dcc_meter meter;`. If
+ * all bytes are zero, the meter is new. */
+typedef struct {
+    uint64_t kept[138];
+} dcc_meter;
+
+/* The count, the sum, the least and the greatest of some durations. If there are none, all fields are 0. The mean of
+ * the durations is sum / count. */
+typedef struct {
+    uint64_t count, sum, least, most;
+} dcc_tally;
+
+/* The statistics of half-bits. All durations are in microseconds. */
+typedef struct {
+    uint64_t time; /* the duration of all half-bits together */
+    uint64_t gap;  /* the longest time from the end of a packet to the end of the next, or 0 without has_gap */
+    dcc_tally below, ones, between, zeros, above; /* half-bits of at most 51, of 52 to 64, of 65 to 89, of 90 to 10000,
+                                                     and of at least 10001 */
+    dcc_tally differences; /* for each one of a packet, the difference between its two half-bits */
+    dcc_tally sums;        /* for each zero of a packet, its duration */
+    uint32_t packets;      /* the number of packets */
+    uint32_t refused[5];   /* the number of refusals, H1 to H5 */
+    uint32_t halves;       /* the number of half-bits */
+    uint32_t lost;         /* the number of lost packets, at most 4294967295 */
+    uint16_t preamble;     /* the shortest preamble of a packet that was found or lost, in half-bits and at most 65535,
+                              or 0 without has_preamble */
+    bool has_preamble;     /* true if a packet was found or lost */
+    bool has_gap;          /* true if at least two packets were found */
+    DCC_FREE_BYTE DCC_FREE_BYTE DCC_FREE_BYTE DCC_FREE_BYTE
+} dcc_statistics;
+
+/* Makes a meter new: the meter has then taken no half-bits. */
+void dcc_meter_new(dcc_meter *meter);
+
+/* Takes n half-bits of us microseconds and returns 1. If the meter would then have taken 2^32 or more half-bits,
+ * returns 0 and takes none. */
+uint8_t dcc_meter_push_run(dcc_meter *meter, uint16_t us, uint32_t n);
+
+/* Takes the len half-bits of an array in order and returns 1. If the meter would then have taken 2^32 or more
+ * half-bits, returns 0 and takes none. */
+uint8_t dcc_meter_push_many(dcc_meter *meter, const uint16_t *halves, uint64_t len);
+
+/* Writes the statistics of all half-bits that the meter has taken. */
+void dcc_meter_read(const dcc_meter *meter, dcc_statistics *statistics);
 
 /* ---- packets (NMRA S-9.2.1) ---- */
 
@@ -480,6 +529,9 @@ DCC_ASSERT(sizeof(dcc_lost) == 808);
 DCC_ASSERT(sizeof(dcc_short_preamble) == 4);
 DCC_ASSERT(sizeof(dcc_off_limits) == 8);
 DCC_ASSERT(sizeof(dcc_lost_packet) == 28);
+DCC_ASSERT(sizeof(dcc_meter) == 1104);
+DCC_ASSERT(sizeof(dcc_tally) == 32);
+DCC_ASSERT(sizeof(dcc_statistics) == 280);
 DCC_ASSERT(sizeof(dcc_packet) == 18);
 DCC_ASSERT(sizeof(dcc_timing) == 8);
 DCC_ASSERT(sizeof(dcc_sender) == 16);

@@ -1,6 +1,6 @@
 # SPDX-License-Identifier: MIT OR Apache-2.0
-"""Digital Command Control (DCC) for scripts: packets and lost packets in half-bits, packet lines, frames, decoders, a
-command station.
+"""Digital Command Control (DCC) for scripts: packets and lost packets in half-bits, the statistics of a track, packet
+lines, frames, decoders, a command station.
 
     >>> import dcc
     >>> dcc.frame("loco s3 speed28 f 4").hex()
@@ -68,6 +68,25 @@ class _LostPacket(ctypes.Structure):
     _fields_ = [("frame", _Frame), ("preamble", _ShortPreamble), ("ones", _OffLimits), ("zeros", _OffLimits)]
 
 
+class _Meter(ctypes.Structure):
+    _fields_ = [("kept", _u64 * 138)]
+
+
+class _Tally(ctypes.Structure):
+    _fields_ = [("count", _u64), ("sum", _u64), ("least", _u64), ("most", _u64)]
+
+
+_TALLIES = "below", "ones", "between", "zeros", "above", "differences", "sums"
+
+
+class _Statistics(ctypes.Structure):
+    _fields_ = [
+        ("time", _u64), ("gap", _u64), *((name, _Tally) for name in _TALLIES), ("packets", _u32), ("refused", _u32 * 5),
+        ("halves", _u32), ("lost", _u32), ("preamble", _u16), ("has_preamble", ctypes.c_bool),
+        ("has_gap", ctypes.c_bool),
+    ]
+
+
 class _Timing(ctypes.Structure):
     _fields_ = [("one", _u16), ("zero_first", _u16), ("zero_second", _u16), ("preamble", _u8)]
 
@@ -108,7 +127,8 @@ class _Reader(ctypes.Structure):
 
 
 _SIZES = (_Frame, 7), (_Framer, 24), (_Outcome, 12), (_Sender, 16), (_Loco, 1072), (_Board, 12), (_Station, 1800)
-_SIZES += (_Lost, 808), (_LostPacket, 28), (_Packet, 18), (_Service, 1032), (_Reader, 4)
+_SIZES += (_Lost, 808), (_LostPacket, 28), (_Meter, 1104), (_Statistics, 280), (_Packet, 18)
+_SIZES += (_Service, 1032), (_Reader, 4)
 for _object, _size in _SIZES:
     assert ctypes.sizeof(_object) == _size, f"{_object.__name__} is not as dcc.h has it"
 
@@ -126,6 +146,10 @@ _push_many = _call("dcc_push_many", _u8, _at(_Framer), ctypes.c_void_p, _u64, _a
 _read = _call("dcc_read", _u8, ctypes.c_char_p, _u64, _at(_Packet))
 _lost_new = _call("dcc_lost_new", None, _at(_Lost))
 _lost_push_run = _call("dcc_lost_push_run", _u32, _at(_Lost), _u16, _u32, _at(_LostPacket))
+_meter_new = _call("dcc_meter_new", None, _at(_Meter))
+_meter_push_run = _call("dcc_meter_push_run", _u8, _at(_Meter), _u16, _u32)
+_meter_push_many = _call("dcc_meter_push_many", _u8, _at(_Meter), ctypes.c_void_p, _u64)
+_meter_read = _call("dcc_meter_read", None, _at(_Meter), _at(_Statistics))
 _line = _call("dcc_line", _u8, ctypes.c_char_p, _u64, ctypes.c_char_p)
 _frame_of_line = _call("dcc_frame_of_line", _u8, ctypes.c_char_p, _u64, _at(_Frame))
 _sender_start = _call("dcc_sender_start", _u8, _at(_Sender), ctypes.c_char_p, _u64, _at(_Timing))
@@ -205,6 +229,13 @@ def _run(us, count):
     return us, count
 
 
+def _array(halves):
+    """Returns half-bits as an array for the library. Errors: those of _number."""
+    if isinstance(halves, array) and halves.typecode == "H":
+        return halves
+    return array("H", [min(_number("a half-bit", it, 0), 65535) for it in halves])
+
+
 class Seen(namedtuple("Seen", "at refusal frame")):
     """A packet or a refusal: the number of its last half-bit, from 1; None or H1 to H5; its bytes.
 
@@ -240,8 +271,7 @@ class Framer:
         a copy.
 
         Errors: TypeError or ValueError if an item is no half-bit. The framer then takes no item."""
-        if not (isinstance(halves, array) and halves.typecode == "H"):
-            halves = array("H", [min(_number("a half-bit", it, 0), 65535) for it in halves])
+        halves = _array(halves)
         found, at, count = [], 0, len(halves)
         place = halves.buffer_info()[0]
         outcome, taken = _Outcome(), _u64()
@@ -340,6 +370,117 @@ def lost(halves):
     """Returns the packets that a decoder does not hear in half-bits, which are numbers of microseconds, in order."""
     finder = Lost()
     return (it for us in halves for it in finder.push(us))
+
+
+@dataclass(frozen=True)
+class Tally:
+    """The count, the sum, the least, the greatest and the mean of some durations in microseconds.
+
+    Without durations the count and the sum are 0, and the other numbers are None."""
+
+    count: int
+    sum: int
+    least: Optional[int]
+    most: Optional[int]
+
+    @property
+    def mean(self) -> Optional[float]:
+        return self.sum / self.count if self.count else None
+
+
+@dataclass(frozen=True)
+class Statistics:
+    """The statistics of half-bits, as `dcc timing` writes them (docs/FORMATS.md). All durations are in microseconds.
+
+    The tallies below, ones, between, zeros and above are of half-bits by their class. The tally differences is of the
+    differences between the two half-bits of each one of a packet, and sums of the durations of each zero of a packet.
+    The refusals have the keys H1 to H5. The preamble is the shortest preamble of a packet that was found or lost, in
+    half-bits and at most 65535, and gap is the longest time from the end of a packet to the end of the next. Each of
+    them is None if there is none."""
+
+    halves: int
+    time: int
+    packets: int
+    refused: Dict[str, int]
+    lost: int
+    preamble: Optional[int]
+    gap: Optional[int]
+    ones: Tally
+    differences: Tally
+    zeros: Tally
+    sums: Tally
+    below: Tally
+    between: Tally
+    above: Tally
+
+
+class Meter:
+    """Computes the statistics of half-bits, which come one by one, in runs, or as a whole list.
+
+    >>> meter = Meter()
+    >>> meter.push(58, 28)
+    >>> meter.push(100)
+    >>> meter.statistics().zeros
+    Tally(count=1, sum=100, least=100, most=100)
+    """
+
+    def __init__(self) -> None:
+        self._meter = _Meter()
+        _meter_new(self._meter)
+
+    def push(self, us: int, count: int = 1) -> None:
+        """Takes equal half-bits, of these microseconds.
+
+        A half-bit above 65535 counts as 65535. The count is 1 to 4294967295.
+
+        Errors: Refused with `U7 input too long`, and nothing is taken, if the meter would have 2**32 or more
+        half-bits."""
+        us, count = _run(us, count)
+        if not _meter_push_run(self._meter, us, count):
+            raise Refused("U7 input too long")
+
+    def push_many(self, halves: Iterable[int]) -> None:
+        """Takes half-bits of these microseconds, in order.
+
+        A half-bit above 65535 counts as 65535. An array with the type code 'H', as `capture` returns, is taken without
+        a copy.
+
+        Errors: those of `push`. The meter then takes no half-bit of the list."""
+        halves = _array(halves)
+        if not _meter_push_many(self._meter, halves.buffer_info()[0], len(halves)):
+            raise Refused("U7 input too long")
+
+    def statistics(self) -> Statistics:
+        """Returns the statistics of all half-bits that the meter has taken."""
+        found = _Statistics()
+        _meter_read(self._meter, found)
+        return Statistics(
+            halves=found.halves,
+            time=found.time,
+            packets=found.packets,
+            refused={f"H{n + 1}": count for n, count in enumerate(found.refused)},
+            lost=found.lost,
+            preamble=found.preamble if found.has_preamble else None,
+            gap=found.gap if found.has_gap else None,
+            **{name: _tally(getattr(found, name)) for name in _TALLIES},
+        )
+
+
+def _tally(found):
+    if not found.count:
+        return Tally(0, 0, None, None)
+    return Tally(found.count, found.sum, found.least, found.most)
+
+
+def timing(halves: Iterable[int]) -> Statistics:
+    """Returns the statistics of half-bits, which are numbers of microseconds, as `dcc timing` writes them.
+
+    >>> timing(halves(frame("idle"))).packets
+    1
+    """
+    meter = Meter()
+    meter.push_many(halves)
+    return meter.statistics()
 
 
 # a run, a comment, a line feed, or a word that is no run

@@ -53,6 +53,29 @@ def rows():
         return [it.rstrip("\n") for it in lines if not it.startswith("#")]
 
 
+def timing_text(found):
+    """The text that `dcc timing` writes for these statistics."""
+
+    def shown(number):
+        return "none" if number is None else str(number)
+
+    def tally(name):
+        it = getattr(found, name)
+        mean = f"{it.sum // it.count}.{100 * (it.sum % it.count) // it.count:02}" if it.count else "none"
+        yield f"{name} count {it.count}"
+        yield f"{name} least {shown(it.least)}"
+        yield f"{name} most {shown(it.most)}"
+        yield f"{name} mean {mean}"
+
+    lines = [f"halves {found.halves}", f"time {found.time}", f"packets {found.packets}"]
+    lines += (f"refused {name} {count}" for name, count in found.refused.items())
+    lines += [f"lost {found.lost}", f"preamble least {shown(found.preamble)}", f"gap most {shown(found.gap)}"]
+    lines += [*tally("ones"), "ones station 55 61", "ones decoder 52 64"]
+    lines += [*tally("differences"), "differences station 3", "differences decoder 6"]
+    lines += [*tally("zeros"), "zeros station 95 9900", "zeros decoder 90 10000", *tally("sums"), "sums station 12000"]
+    return "".join(f"{line}\n" for line in [*lines, *tally("below"), *tally("between"), *tally("above")])
+
+
 def decoders():
     """The decoders of bindings/each_register.txt."""
     locos = {1: 3, 29: 2}, {17: 0xC3, 18: 0xE8, 29: 0x22}, {1: 3, 29: 0}, {}
@@ -366,6 +389,52 @@ class ByHand(unittest.TestCase):
         for bad, kind in (["58"], TypeError), ([70, -1], ValueError), (None, TypeError):
             self.assertRaises(kind, framer.push_many, bad)
         self.assertEqual(framer.push_many(iter([70])), [dcc.Seen(42, "H1", b"")])
+
+    def test_statistics_are_those_of_timing(self):
+        packet = list(dcc.halves(SPEED))
+        lost = [58] * 14 + packet[28:]
+        odd = [5, 5, 70, 20000, 65535, 58, 58, 100]
+        for halves in (
+            [], [58] * 28, packet, packet + packet, packet + lost, lost, packet + odd + packet, odd,
+            [59, 57] * 14 + [100, 110] * 20 + [58] * 2, [0], [65535] * 3,
+        ):
+            text = " ".join(map(str, halves))
+            self.assertEqual(timing_text(dcc.timing(halves)), program("timing", text=text), text)
+            self.assertEqual(dcc.timing(dcc.capture(text)), dcc.timing(halves))
+
+    def test_a_meter_takes_half_bits_runs_and_lists(self):
+        one_by_one, by_runs, at_once = dcc.Meter(), dcc.Meter(), dcc.Meter()
+        runs = [(58, 28), (100, 14), (58, 4), (70000, 2), (58, 66_500), (100, 40)]
+        for us, count in runs:
+            by_runs.push(us, count)
+            for _ in range(count):
+                one_by_one.push(us)
+        at_once.push_many(us for us, count in runs for _ in range(count))
+        at_once.push_many([])
+        found = by_runs.statistics()
+        self.assertEqual(found, one_by_one.statistics())
+        self.assertEqual(found, at_once.statistics())
+        self.assertEqual((found.halves, found.above.most, found.preamble), (66_588, 65535, None))
+        self.assertEqual((found.ones.mean, found.below.mean), (58.0, None))
+        # a meter goes on after its statistics were read
+        by_runs.push(5)
+        self.assertEqual(by_runs.statistics().below, dcc.Tally(1, 5, 5, 5))
+
+    def test_a_full_meter_takes_nothing(self):
+        meter = dcc.Meter()
+        meter.push(58, 4_294_967_295)
+        for push in (lambda: meter.push(58), lambda: meter.push_many([58])):
+            with self.assertRaisesRegex(dcc.Refused, "^U7 input too long$"):
+                push()
+        meter.push_many([])
+        self.assertEqual(meter.statistics().halves, 4_294_967_295)
+        for wrong, error in ((-1, ValueError), ("58", TypeError), (None, TypeError), (5.5, TypeError)):
+            with self.assertRaises(error):
+                meter.push(wrong)
+            with self.assertRaises(error):
+                meter.push_many([wrong])
+        with self.assertRaises(ValueError):
+            meter.push(58, 0)
 
     def test_texts_of_captures_are_read_as_show_reads_them(self):
         good = "58*28 100*14 58*4 100*4 58*4 100*6 58*2 100*6 58*4 100*8 58*4"
@@ -819,6 +888,9 @@ class RandomPackets(unittest.TestCase):
         self.assertTrue("".join(f"{it}\n" for it in dcc.lost(halves)) == wanted)
         for cause in ": preamble 17\n", ": preamble 12 after ", ": ones ", ": zeros ", ": preamble 12, ones ":
             self.assertGreater(wanted.count(cause), 100, cause)
+
+    def test_statistics_are_what_timing_writes(self):
+        self.assertEqual(timing_text(dcc.timing(self.halves)), program("timing", text=" ".join(map(str, self.halves))))
 
     def test_in_runs_the_same_packets_are_lost(self):
         # long runs, and a packet behind them

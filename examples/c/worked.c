@@ -206,6 +206,89 @@ static bool says(const char *line, dcc_packet numbers) {
     return dcc_read(frame.bytes, frame.len, &packet) == 0 && is_same(&packet, &numbers);
 }
 
+static bool is_tally(const dcc_tally *tally, uint64_t count, uint64_t sum, uint64_t least, uint64_t most) {
+    return tally->count == count && tally->sum == sum && tally->least == least && tally->most == most;
+}
+
+/* So `static dcc_meter meter;` needs no call before its first half-bit. */
+static void a_meter_of_zeros_is_a_new_one(void) {
+    static dcc_meter zeros, meter;
+    dcc_meter_new(&meter);
+    HOLDS(!memcmp(&zeros, &meter, sizeof zeros));
+}
+
+static void a_meter_computes_statistics(void) {
+    static dcc_meter meter;
+    static dcc_statistics none, zeros;
+    dcc_statistics s;
+    memset(&s, 7, sizeof s);
+    dcc_meter_read(&meter, &s);
+    HOLDS(s.halves == 0 && s.time == 0 && s.packets == 0 && s.lost == 0);
+    HOLDS(!s.has_gap && s.gap == 0 && !s.has_preamble && s.preamble == 0);
+    HOLDS(is_tally(&s.below, 0, 0, 0, 0) && is_tally(&s.ones, 0, 0, 0, 0) && is_tally(&s.above, 0, 0, 0, 0));
+    dcc_meter_read(&meter, &none);
+    HOLDS(none.time == zeros.time && none.sums.most == zeros.sums.most);
+    /* two packets: 28 half-bits of ones and 56 half-bits, then 30 half-bits of ones and the same 56 */
+    uint16_t halves[DCC_HALVES];
+    HOLDS(dcc_halves(speed, 3, 14, halves) == 84);
+    for (int i = 0; i < 84; i++) HOLDS(dcc_meter_push_run(&meter, halves[i], 1) == 1);
+    HOLDS(dcc_meter_push_run(&meter, 57, 30) == 1);
+    for (int i = 28; i < 84; i++) HOLDS(dcc_meter_push_run(&meter, halves[i], 1) == 1);
+    /* the body of the same packet after 16 half-bits of ones: the packet is lost */
+    HOLDS(dcc_meter_push_run(&meter, 58, 14) == 1);
+    for (int i = 28; i < 84; i++) HOLDS(dcc_meter_push_run(&meter, halves[i], 1) == 1);
+    /* half-bits of each other class, of which the first ends a body with H1 */
+    HOLDS(dcc_meter_push_run(&meter, 58, 40) == 1 && dcc_meter_push_run(&meter, 100, 2) == 1);
+    HOLDS(dcc_meter_push_run(&meter, 5, 3) == 1 && dcc_meter_push_run(&meter, 70, 2) == 1);
+    HOLDS(dcc_meter_push_run(&meter, 20000, 4) == 1);
+    dcc_meter_read(&meter, &s);
+    /* a body has 38 half-bits of zeros and 18 of ones */
+    HOLDS(s.halves == 84 + 30 + 56 + 14 + 56 + 40 + 2 + 3 + 2 + 4);
+    HOLDS(is_tally(&s.ones, 28 + 30 + 14 + 40 + 54, 57 * 30 + 58 * 136, 57, 58));
+    HOLDS(is_tally(&s.zeros, 3 * 38 + 2, 100 * 116, 100, 100));
+    HOLDS(is_tally(&s.below, 3, 15, 5, 5) && is_tally(&s.between, 2, 140, 70, 70));
+    HOLDS(is_tally(&s.above, 4, 80000, 20000, 20000));
+    HOLDS(s.time == s.ones.sum + s.zeros.sum + s.below.sum + s.between.sum + s.above.sum);
+    HOLDS(s.packets == 2 && s.refused[0] == 1 && s.refused[1] == 0 && s.refused[4] == 0 && s.lost == 1);
+    /* the bits of the two packets: ten ones of each preamble, 19 zeros and 9 ones of each body */
+    HOLDS(is_tally(&s.differences, 2 * 19, 0, 0, 0) && is_tally(&s.sums, 2 * 19, 2 * 19 * 200, 200, 200));
+    HOLDS(s.has_gap && s.gap == 57 * 30 + 100 * 38 + 58 * 18);
+    HOLDS(s.has_preamble && s.preamble == 16);
+    dcc_meter_new(&meter);
+    dcc_meter_read(&meter, &s);
+    HOLDS(s.halves == 0 && s.time == 0 && s.packets == 0 && !s.has_preamble);
+}
+
+static void a_meter_takes_an_array(void) {
+    static dcc_meter by_array, one_by_one;
+    dcc_statistics s;
+    uint16_t halves[DCC_HALVES];
+    HOLDS(dcc_halves(speed, 3, 14, halves) == 84);
+    HOLDS(dcc_meter_push_many(&by_array, halves, 84) == 1 && dcc_meter_push_many(&by_array, halves, 0) == 1);
+    for (int i = 0; i < 84; i++) HOLDS(dcc_meter_push_run(&one_by_one, halves[i], 1) == 1);
+    HOLDS(!memcmp(&by_array, &one_by_one, sizeof by_array));
+    dcc_meter_read(&by_array, &s);
+    HOLDS(s.halves == 84 && s.packets == 1 && s.preamble == 28 && !s.has_gap);
+    /* a full meter refuses the whole array */
+    HOLDS(dcc_meter_push_run(&by_array, 58, 4294967211u - 83) == 1 && dcc_meter_push_many(&by_array, halves, 84) == 0);
+    HOLDS(dcc_meter_push_many(&by_array, halves, 83) == 1 && dcc_meter_push_many(&by_array, halves, 1) == 0);
+    dcc_meter_read(&by_array, &s);
+    HOLDS(s.halves == 4294967295u && s.packets == 1);
+}
+
+static void a_full_meter_takes_nothing(void) {
+    static dcc_meter meter;
+    dcc_statistics s;
+    HOLDS(dcc_meter_push_run(&meter, 58, 4000000000u) == 1);
+    HOLDS(dcc_meter_push_run(&meter, 100, 294967296u) == 0);
+    dcc_meter_read(&meter, &s);
+    HOLDS(s.halves == 4000000000u && s.time == 232000000000u && s.zeros.count == 0);
+    HOLDS(dcc_meter_push_run(&meter, 100, 294967295u) == 1);
+    HOLDS(dcc_meter_push_run(&meter, 100, 1) == 0 && dcc_meter_push_run(&meter, 100, 0) == 1);
+    dcc_meter_read(&meter, &s);
+    HOLDS(s.halves == 4294967295u && is_tally(&s.zeros, 294967295, 29496729500u, 100, 100));
+}
+
 static void what_a_packet_says(void) {
     typedef dcc_packet p;
     HOLDS(says("idle", (p){.kind = DCC_IDLE}));
@@ -716,6 +799,10 @@ int main(void) {
     a_packet_is_lost_for_each_cause();
     a_heard_packet_is_not_lost();
     a_run_is_taken_up_to_a_lost_packet();
+    a_meter_of_zeros_is_a_new_one();
+    a_meter_computes_statistics();
+    a_meter_takes_an_array();
+    a_full_meter_takes_nothing();
     what_a_packet_says();
     no_frame_is_read();
     lines_and_their_faults();

@@ -1,5 +1,6 @@
 /* Functions that the boards under qemu share, and boards whose debugger has semihosting: bytes from standard input,
  * text to standard output. */
+#include "qemu.h"
 #include "board.h"
 #include "semihosting.h"
 
@@ -13,6 +14,27 @@ int read_byte(void) {
         place = 0;
     }
     return place < len ? bytes[place++] : -1;
+}
+
+/* The next byte of the capture that is in no comment, -1 at its end. */
+static int next_byte(void) {
+    int c = read_byte();
+    if (c == '#') {
+        while (c >= 0 && c != '\n') c = read_byte();
+    }
+    return c;
+}
+
+static bool is_digit(int c) {
+    return c >= '0' && c <= '9';
+}
+
+bool next_half(uint32_t *us) {
+    int c = next_byte();
+    while (c >= 0 && !is_digit(c)) c = next_byte();
+    if (c < 0) return false;
+    for (*us = 0; is_digit(c); c = next_byte()) *us = *us * 10 + (uint32_t)(c - '0');
+    return true;
 }
 
 void show(const char *text) {

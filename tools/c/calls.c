@@ -16,13 +16,13 @@
 #endif
 
 #define FUNCTIONS(X) \
-    X(framer_new) X(push) X(push_run) X(push_many) X(lost_new) X(lost_push) X(lost_push_run) X(read) X(line) \
-    X(frame_of_line) X(halves) X(sender_start) X(sender_half) \
-    X(loco_new) X(loco_apply) X(loco_hears) X(board_new) X(board_apply) X(board_hears) X(service_new) \
+    X(framer_new) X(push) X(push_run) X(push_many) X(lost_new) X(lost_push) X(lost_push_run) X(meter_new) \
+    X(meter_push_run) X(meter_push_many) X(meter_read) X(read) X(line) X(frame_of_line) X(halves) X(sender_start) \
+    X(sender_half) X(loco_new) X(loco_apply) X(loco_hears) X(board_new) X(board_apply) X(board_hears) X(service_new) \
     X(service_apply) X(loco_power_up) X(service_power_up) X(small_loco_new) X(small_loco_cv) X(small_loco_apply) \
     X(small_loco_hears) X(small_service_new) X(small_service_cv) X(small_service_apply) X(reader_new) \
-    X(reader_question) X(reader_answer) X(station_new) X(station_command) \
-    X(station_next) X(station_waiting) X(station_entries)
+    X(reader_question) X(reader_answer) X(station_new) X(station_command) X(station_next) X(station_waiting) \
+    X(station_entries)
 
 #define NUMBER(name) F_##name,
 enum { FUNCTIONS(NUMBER) COUNT };
@@ -67,6 +67,7 @@ static void add_frame(const dcc_frame *frame) {
 
 static dcc_framer framer;
 static dcc_lost finder;
+static dcc_meter meter;
 static dcc_sender sender;
 static dcc_loco loco;
 static dcc_board board;
@@ -234,6 +235,39 @@ static void call_finder(uint16_t us, uint32_t n) {
     if (one_of(100)) add_bytes(&finder, sizeof finder);
 }
 
+static void add_long(uint64_t number) { add((uint32_t)number), add((uint32_t)(number >> 32)); }
+
+static void add_tally(const dcc_tally *tally) {
+    add_long(tally->count), add_long(tally->sum), add_long(tally->least), add_long(tally->most);
+}
+
+static void read_meter(void) {
+    dcc_statistics statistics;
+    uint8_t i;
+    memset(&statistics, 1, sizeof statistics);
+    called(F_meter_read);
+    dcc_meter_read(&meter, &statistics);
+    add_long(statistics.time), add_long(statistics.gap), add_tally(&statistics.below), add_tally(&statistics.ones);
+    add_tally(&statistics.between), add_tally(&statistics.zeros), add_tally(&statistics.above);
+    add_tally(&statistics.differences), add_tally(&statistics.sums), add(statistics.packets), add(statistics.halves);
+    for (i = 0; i < 5; i++) add(statistics.refused[i]);
+    add(statistics.lost), add(statistics.preamble), add(statistics.has_preamble), add(statistics.has_gap);
+}
+
+/* A long run takes 66,000 steps, so only the first one is long. */
+static void call_meter(uint16_t us, uint32_t n) {
+    uint16_t halves[4] = {us, us, us, us};
+    if (n > 300 && !is_first) n %= 300;
+    if (n <= 4 && one_of(3)) {
+        called(F_meter_push_many);
+        add(dcc_meter_push_many(&meter, halves, n));
+    } else {
+        called(F_meter_push_run);
+        add(dcc_meter_push_run(&meter, us, n));
+    }
+    if (first_or_one_of(100)) read_meter();
+}
+
 static void call_packets(void) {
     static char text[DCC_LINE], at_end[DCC_LINE + 8];
     static uint16_t halves[DCC_HALVES];
@@ -276,12 +310,18 @@ static void call_packets(void) {
         for (run = 1; in_runs && i + 1 < count && halves[i + 1] == halves[i] && !one_of(90); i++) run++;
         call_framer(us, run);
         call_finder(us, run);
+        call_meter(us, run);
     }
     run_us = one_of(4) ? (uint16_t)next() : (uint16_t)(50 + below(70));
     run = below(60);
     if (one_of(2)) run = next() >> run % 32;
     call_framer(run_us, run);
     call_finder(run_us, run);
+    call_meter(run_us, run);
+    if (first_or_one_of(50)) {
+        called(F_meter_new);
+        dcc_meter_new(&meter);
+    }
     if (first_or_one_of(50)) {
         called(F_lost_new);
         dcc_lost_new(&finder);

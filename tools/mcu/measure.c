@@ -18,6 +18,8 @@ static dcc_outcome outcome;
 static uint64_t taken;
 static dcc_lost finder;
 static dcc_lost_packet lost;
+static dcc_meter meter;
+static dcc_statistics statistics;
 static dcc_packet packet;
 static char line[DCC_LINE];
 static uint16_t sent[DCC_HALVES];
@@ -55,6 +57,10 @@ static void make_end(void) {
 static void push_end(void) {
     if (!dcc_lost_push(&finder, 58, &lost)) exit(6);
 }
+static void new_meter(void) { dcc_meter_new(&meter); }
+static void push_meter(void) { dcc_meter_push_run(&meter, halves[at], 1); }
+static void push_meter_many(void) { dcc_meter_push_many(&meter, &halves[at], 1); }
+static void read_meter(void) { dcc_meter_read(&meter, &statistics); }
 static void read_frame(void) { dcc_read(GIVEN, &packet); }
 static void write_line(void) { dcc_line(GIVEN, line); }
 static void send(void) { dcc_halves(GIVEN, 16, sent); }
@@ -263,6 +269,10 @@ int main(void) {
     measure("dcc_lost_push", push_lost, half_count);
     measure("dcc_lost_push_run", push_lost_run, half_count);
     measure_behind("dcc_lost_push:lost", make_end, push_end, frame_count);
+    measure("dcc_meter_new", new_meter, 100);
+    measure("dcc_meter_push_run", push_meter, half_count);
+    measure("dcc_meter_push_many", push_meter_many, half_count);
+    measure("dcc_meter_read", read_meter, 100);
     measure("dcc_read", read_frame, frame_count);
     measure("dcc_line", write_line, frame_count);
     measure("dcc_frame_of_line", read_line, frame_count);

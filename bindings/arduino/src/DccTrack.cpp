@@ -1,5 +1,7 @@
 #include "DccTrack.h"
 
+#include "DccText.h"
+
 void DccTrack::begin(uint32_t now) {
     framer = dcc_framer_new();
     last = now;
@@ -22,32 +24,11 @@ void DccTrack::halfBit(uint16_t us) {
     }
 }
 
-static char *append(char *at, const char *text) {
-    while (*text != 0) *at++ = *text++;
-    *at = 0;
-    return at;
-}
-
-static char *appendNumber(char *at, uint32_t number) {
-    if (number >= 10) at = appendNumber(at, number / 10);
-    const char digit[2] = {(char)('0' + number % 10), 0};
-    return append(at, digit);
-}
-
-static char *appendHex(char *at, uint8_t byte) {
-    const char digits[3] = {"0123456789abcdef"[byte / 16], "0123456789abcdef"[byte % 16], 0};
-    return append(at, digits);
-}
-
 bool DccTrack::nextLine(char line[LINE]) {
     uint32_t half;
     dcc_outcome seen;
     if (!next(&half, &seen)) return false;
-    char *at = append(appendNumber(line, half), " ");
-    if (seen.refusal == 0) return dcc_line(seen.frame.bytes, seen.frame.len, at) == 0;
-    at = appendNumber(append(at, "refused H"), seen.refusal);
-    if (seen.frame.len > 0) at = append(at, " ");
-    for (uint8_t i = 0; i < seen.frame.len; i++) at = appendHex(at, seen.frame.bytes[i]);
+    dccAppendOutcome(line, half, seen);
     return true;
 }
 

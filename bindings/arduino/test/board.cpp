@@ -106,8 +106,13 @@ int Port::read() {
     return at == len ? '\n' : at < LINE ? line[at] : 'x';
 }
 #else
-int Port::available() { return 0; }
-int Port::read() { return -1; }
+/* The bytes that are typed before the first half-bit. */
+#ifndef TYPED
+#define TYPED ""
+#endif
+static const char *typed = TYPED;
+int Port::available() { return *typed != 0; }
+int Port::read() { return *typed != 0 ? *typed++ : -1; }
 
 extern "C" void on_edge(uint32_t at) {
     static bool isRising;

@@ -3,6 +3,7 @@
  * --station`. */
 #include "DccAccessory.h"
 #include "DccDecoder.h"
+#include "DccSniffer.h"
 #include "DccStation.h"
 #include <stdio.h>
 #include <stdlib.h>
@@ -60,6 +61,67 @@ static void fourPacketsWait() {
         snprintf(wanted, sizeof wanted, "%u idle", count);
         HOLDS(isNext(track, wanted) && !track.nextLine(line));
     }
+}
+
+static bool isRun(DccSniffer &sniffer, const char *wanted) {
+    char word[DccSniffer::RUN];
+    memset(word, 7, sizeof word);
+    if (sniffer.nextRun(word) && !strcmp(word, wanted)) return true;
+    printf("a run %s in place of %s\n", word, wanted);
+    return false;
+}
+
+/* At most 1024 half-bits wait. Further half-bits are counted, until those that wait are read. */
+static void halfBitsDoNotFit() {
+    static DccSniffer sniffer;
+    char word[DccSniffer::RUN], line[DccSniffer::LINE];
+    sniffer.begin(now);
+    HOLDS(!sniffer.nextRun(word) && !sniffer.nextLine(line));
+    for (int turn = 1; turn <= 3; turn++) {
+        for (int i = 0; i < 1100; i++) sniffer.halfBit(58);
+        HOLDS(isRun(sniffer, "58*1000") && isRun(sniffer, "58*24"));
+        HOLDS(!sniffer.nextRun(word) && sniffer.unfit() == 76);
+        sniffer.halfBit(100);
+        HOLDS(isRun(sniffer, "65535*76"));
+        sniffer.halfBit(58);
+        HOLDS(isRun(sniffer, "100"));
+        sniffer.halfBit(65535);
+        sniffer.halfBit(7);
+        HOLDS(isRun(sniffer, "58") && isRun(sniffer, "65535"));
+        sniffer.halfBit(0);
+        HOLDS(isRun(sniffer, "7") && !sniffer.nextRun(word));
+        sniffer.begin(now);
+        HOLDS(sniffer.unfit() == 0 && !sniffer.nextRun(word));
+        if (turn == 1) continue;
+        /* the numbers of packets count the half-bits that did not fit */
+        for (int i = 0; i < 1100; i++) sniffer.halfBit(58);
+        while (sniffer.nextLine(line)) {}
+        play(sniffer, "idle");
+        HOLDS(sniffer.nextLine(line) && !strcmp(line, "1184 idle") && !sniffer.nextLine(line));
+        sniffer.begin(now);
+    }
+}
+
+static void aRunIsLong() {
+    static DccSniffer sniffer;
+    char word[DccSniffer::RUN];
+    sniffer.begin(now);
+    for (int i = 0; i < 2100; i++) {
+        sniffer.halfBit(10000);
+        if (i % 1000 != 0 || i == 0) HOLDS(!sniffer.nextRun(word));
+        else HOLDS(isRun(sniffer, "10000*1000"));
+    }
+    now += 1000000;
+    sniffer.edge(now);
+    HOLDS(isRun(sniffer, "10000*100"));
+}
+
+/* The longest line, and a zero. */
+static void aLostPacketHasRoom() {
+    HOLDS(DccSniffer::LINE > strlen("4294967295 lost : preamble 255 after 4294967295, "
+                                    "ones 4294967295 from 65535 to 65535, "
+                                    "zeros 4294967295 from 65535 to 65535") +
+                                 DCC_LINE - 1);
 }
 
 /* A line has the number of a half-bit, ten digits at most, a blank and a packet line with its zero. */
@@ -306,6 +368,9 @@ int main(int argc, char **) {
     }
     fourPacketsWait();
     aLineHasRoom();
+    halfBitsDoNotFit();
+    aRunIsLong();
+    aLostPacketHasRoom();
     aTrackIsBegunAnew();
     longHalfBitsAreLong();
     aBoardIsOneOf0To510();

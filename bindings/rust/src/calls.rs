@@ -4,6 +4,7 @@ use crate::frame::Frame;
 use crate::framer::Framer;
 use crate::loco::Loco;
 use crate::lost::{LostFinder, OffLimits};
+use crate::meter::{Meter, Tally};
 use crate::reader::Reader;
 use crate::sending::{Halves, Timing};
 use crate::service::Service;
@@ -66,6 +67,56 @@ impl Lost {
     };
 }
 
+/// `dcc_statistics`.
+#[repr(C)]
+pub(crate) struct Measured {
+    pub time: u64,
+    pub gap: u64,
+    pub below: Tally,
+    pub ones: Tally,
+    pub between: Tally,
+    pub zeros: Tally,
+    pub above: Tally,
+    pub differences: Tally,
+    pub sums: Tally,
+    pub packets: u32,
+    pub refused: [u32; 5],
+    pub halves: u32,
+    pub lost: u32,
+    pub preamble: u16,
+    pub has_preamble: bool,
+    pub has_gap: bool,
+}
+
+impl Measured {
+    /// Empty statistics, for the library to write.
+    pub(crate) const NONE: Measured = Measured {
+        time: 0,
+        gap: 0,
+        below: Measured::NO_HALVES,
+        ones: Measured::NO_HALVES,
+        between: Measured::NO_HALVES,
+        zeros: Measured::NO_HALVES,
+        above: Measured::NO_HALVES,
+        differences: Measured::NO_HALVES,
+        sums: Measured::NO_HALVES,
+        packets: 0,
+        refused: [0; 5],
+        halves: 0,
+        lost: 0,
+        preamble: 0,
+        has_preamble: false,
+        has_gap: false,
+    };
+
+    const NO_HALVES: Tally = Tally {
+        count: 0,
+        sum: 0,
+        least: 0,
+        most: 0,
+    };
+}
+
 /// `dcc_packet`.
 #[repr(C)]
 #[derive(Default)]
@@ -105,6 +156,10 @@ extern "C" {
         n: u32,
         packet: *mut Lost,
     ) -> u32;
+    pub(crate) fn dcc_meter_new(meter: *mut Meter);
+    pub(crate) fn dcc_meter_push_run(meter: *mut Meter, us: u16, n: u32) -> u8;
+    pub(crate) fn dcc_meter_push_many(meter: *mut Meter, halves: *const u16, len: u64) -> u8;
+    pub(crate) fn dcc_meter_read(meter: *const Meter, statistics: *mut Measured);
     pub(crate) fn dcc_read(frame: *const u8, len: u64, packet: *mut Numbers) -> u8;
     pub(crate) fn dcc_line(frame: *const u8, len: u64, line: *mut u8) -> u8;
     pub(crate) fn dcc_frame_of_line(line: *const u8, len: u64, frame: *mut Frame) -> u8;
@@ -154,6 +209,8 @@ const _: () = assert!(size_of::<Framer>() == 24);
 const _: () = assert!(size_of::<Outcome>() == 12);
 const _: () = assert!(size_of::<LostFinder>() == 808);
 const _: () = assert!(size_of::<Lost>() == 28);
+const _: () = assert!(size_of::<Meter>() == 1104);
+const _: () = assert!(size_of::<Measured>() == 280);
 const _: () = assert!(size_of::<Numbers>() == 18);
 const _: () = assert!(size_of::<Timing>() == 8);
 const _: () = assert!(size_of::<Halves>() == 16);

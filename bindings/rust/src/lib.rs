@@ -1,6 +1,6 @@
 //! Digital Command Control (DCC), the signal on the rails of a digital model railway. This crate finds packets and lost
-//! packets in half-bits, reads and sends packets, simulates decoders, reads CVs on a programming track, and runs a
-//! command station.
+//! packets in half-bits, computes the statistics of a track, reads and sends packets, simulates decoders, reads CVs on
+//! a programming track, and runs a command station.
 //!
 //! ```
 //! use dcc::{Frame, Framer, Seen, Timing};
@@ -30,6 +30,7 @@ mod frame;
 mod framer;
 mod loco;
 mod lost;
+mod meter;
 mod packet;
 mod reader;
 mod sending;
@@ -41,6 +42,7 @@ pub use frame::{Frame, FrameFault, LineFault};
 pub use framer::{Framer, Refusal, Seen};
 pub use loco::{Loco, Speed};
 pub use lost::{LostFinder, LostPacket, OffLimits, ShortPreamble};
+pub use meter::{Meter, MeterIsFull, Statistics, Tally};
 pub use packet::{Address, Packet};
 pub use reader::{Reader, Reading};
 pub use sending::{Halves, Timing, TimingFault};

@@ -3,8 +3,8 @@ mod common;
 
 use common::{cvs, dcc, frame, hex, output, program, rows, Fleet};
 use dcc::{
-    Address, Board, CommandFault, Frame, FrameFault, Framer, LineFault, Loco, Reader, Reading,
-    Refusal, Seen, Service, Speed, Station, Timing, TimingFault,
+    Address, Board, CommandFault, Frame, FrameFault, Framer, LineFault, Loco, Meter, MeterIsFull,
+    Reader, Reading, Refusal, Seen, Service, Speed, Station, Tally, Timing, TimingFault,
 };
 use std::fmt::Write as _;
 use std::process::Command;
@@ -452,4 +452,37 @@ fn the_example_refuses_what_show_refuses() {
             "{rest}"
         );
     }
+}
+
+#[test]
+fn a_meter_takes_half_bits_runs_and_lists() {
+    let (mut one_by_one, mut by_runs, mut at_once) = (Meter::new(), Meter::new(), Meter::new());
+    let runs = [(58, 28), (100, 14), (58, 4), (20000, 2), (58, 66_500), (100, 40)];
+    let mut halves = Vec::new();
+    for (us, n) in runs {
+        by_runs.push_run(us, n).unwrap();
+        for _ in 0..n {
+            one_by_one.push(us).unwrap();
+            halves.push(us);
+        }
+    }
+    at_once.push_many(&halves).unwrap();
+    let found = by_runs.statistics();
+    assert_eq!(found, one_by_one.statistics());
+    assert_eq!(found, at_once.statistics());
+    assert_eq!((found.halves, found.above.most, found.preamble, found.gap), (66_588, 20000, None, None));
+    assert_eq!((found.ones.least, found.zeros.count, found.below), (58, 54, Tally::default()));
+}
+
+#[test]
+fn a_full_meter_takes_nothing() {
+    let mut meter = Meter::default();
+    meter.push_run(58, u32::MAX).unwrap();
+    assert_eq!(meter.push(58), Err(MeterIsFull));
+    assert_eq!(meter.push_run(58, 1), Err(MeterIsFull));
+    assert_eq!(meter.push_many(&[58]), Err(MeterIsFull));
+    assert_eq!(meter.push_many(&[]), Ok(()));
+    assert_eq!(meter.statistics().halves, u32::MAX);
+    assert_eq!(MeterIsFull.to_string(), "a meter takes fewer than 2^32 half-bits");
+    assert_eq!(format!("{meter:?}"), "Meter");
 }

@@ -2,7 +2,10 @@
 mod common;
 
 use common::{bit, dcc, name, on, random_lines, side, Fleet};
-use dcc::{CommandFault, Frame, Framer, LostFinder, LostPacket, OffLimits, Packet, Seen, Station, Timing};
+use dcc::{
+    CommandFault, Frame, Framer, LostFinder, LostPacket, Meter, OffLimits, Packet, Seen, Station, Statistics, Tally,
+    Timing,
+};
 use std::fmt::Write as _;
 
 fn frames(lines: &str) -> Vec<Frame> {
@@ -133,6 +136,48 @@ fn what_is_lost_is_what_lost_lists() {
     assert!(listing == dcc(&["lost", "--words"], &capture(&halves)));
     for cause in [": preamble 17\n", ": preamble 12 after ", ": ones ", ": zeros ", ": preamble 12, ones "] {
         assert!(listing.matches(cause).count() > 100, "{cause}");
+    }
+}
+
+/// The text of statistics, as the program writes it.
+fn timing_text(it: &Statistics) -> String {
+    let shown = |number: Option<u64>| number.map_or("none".to_string(), |it| it.to_string());
+    let tally = |name: &str, it: &Tally| {
+        let has = |number| shown((it.count > 0).then_some(number));
+        let mean = match it.count {
+            0 => "none".to_string(),
+            count => format!("{}.{:02}", it.sum / count, 100 * (it.sum % count) / count),
+        };
+        let (least, most) = (has(it.least), has(it.most));
+        format!("{name} count {}\n{name} least {least}\n{name} most {most}\n{name} mean {mean}\n", it.count)
+    };
+    let mut text = format!("halves {}\ntime {}\npackets {}\n", it.halves, it.time, it.packets);
+    for (n, count) in it.refused.iter().enumerate() {
+        writeln!(text, "refused H{} {count}", n + 1).unwrap();
+    }
+    let (preamble, gap) = (shown(it.preamble.map(u64::from)), shown(it.gap));
+    write!(text, "lost {}\npreamble least {preamble}\ngap most {gap}\n", it.lost).unwrap();
+    text + &tally("ones", &it.ones)
+        + "ones station 55 61\nones decoder 52 64\n"
+        + &tally("differences", &it.differences)
+        + "differences station 3\ndifferences decoder 6\n"
+        + &tally("zeros", &it.zeros)
+        + "zeros station 95 9900\nzeros decoder 90 10000\n"
+        + &tally("sums", &it.sums)
+        + "sums station 12000\n"
+        + &tally("below", &it.below)
+        + &tally("between", &it.between)
+        + &tally("above", &it.above)
+}
+
+#[test]
+fn statistics_are_what_timing_writes() {
+    let sent = spoilt(&random_lines());
+    let odd = [5, 5, 70, 20000, 65535, 58, 58, 100];
+    for halves in [&sent[..], &[], &sent[..84], &sent[28..200], &odd] {
+        let mut meter = Meter::new();
+        meter.push_many(halves).unwrap();
+        assert_eq!(timing_text(&meter.statistics()), dcc(&["timing"], &capture(halves)));
     }
 }
 

@@ -16,3 +16,4 @@ pub mod KeptPackets
 pub mod KeptPacketLaw
 pub mod Stations
 pub mod Inner
+pub mod Statistics

@@ -1,7 +1,7 @@
-//! The toolkit for programs in C. The functions find packets and lost packets in half-bits, read and
-//! send packets, and implement decoders, command stations, the programming track and the reading of
-//! CVs. The caller owns the memory of all objects, and no function allocates. `include/dcc.h`
-//! declares these functions and lists the duties of a caller.
+//! The toolkit for programs in C. The functions find packets and lost packets in half-bits, compute
+//! the statistics of a track, read and send packets, and implement decoders, command stations, the
+//! programming track and the reading of CVs. The caller owns the memory of all objects, and no
+//! function allocates. `include/dcc.h` declares these functions and lists the duties of a caller.
 #![tactic(auto)]
 
 mod board;
@@ -15,6 +15,7 @@ mod loco_numbers;
 mod loco_setting;
 mod lost;
 mod lost_packet;
+mod meter;
 mod outcome;
 mod packet;
 mod push_many;
@@ -32,6 +33,7 @@ pub use board::DccBoard;
 pub use frame::DccFrame;
 pub use loco_numbers::{DccLoco, DccLocoRegisters};
 pub use lost_packet::{DccLostPacket, DccOffLimits, DccShortPreamble};
+pub use meter::DccStatistics;
 pub use outcome::DccOutcome;
 pub use packet::DccPacket;
 pub use reader::DccReader;

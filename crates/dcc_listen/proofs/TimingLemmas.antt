@@ -16,11 +16,9 @@ use Rattle.dcc_io.specs.WrittenBytes.{AppendsFront, Writes}
 use Rattle.dcc_io.proofs.ItemsLemmas.{Gave-append, up_to_fault, reads_up_to, uses_all_lines}
 use Rattle.dcc_capture.specs.Capture.{captures, capture_in, GaveHalves, AnswersRun}
 use Rattle.dcc_capture.proofs.CaptureLemmas.{CaptureLinesAt-behind}
-use Rattle.dcc_timing.specs.declared.timings.Timings.{Timings}
-use Rattle.dcc_timing.specs.Measures.{Measures}
-use Rattle.dcc_lost.specs.declared.figures.LostFigures.{LostFigures}
-use Rattle.dcc_lost.specs.MeasuresLost.{MeasuresLost}
-use Rattle.dcc_listen.specs.Timed.{MeasuresAll, StopsTiming, Times}
+use Rattle.dcc_lost.specs.declared.figures.TrackFigures.{TrackFigures}
+use Rattle.dcc_lost.specs.MeasuresTrack.{MeasuresTrack}
+use Rattle.dcc_listen.specs.Timed.{MeasuresCapture, StopsTiming, Times}
 use Rattle.dcc_listen.specs.TimingText.{timing_text}
 use Rattle.dcc_capture.proofs.LinesLemmas.{GaveHalves-none, GaveHalves-append, stops_at_run_fault}
 
@@ -98,21 +96,17 @@ reads_other old new fact other turn all =
     go None says = tt
     go (Some text) says = (says.0, turn (capture_in old text).said says.1)
 
--- the statistics of these halves
-abbrev pub AllMeasured : Timings → LostFigures → List ℕ → Type 0
-AllMeasured timings lost halves = Measures timings halves × MeasuresLost lost halves
-
 -- the text of the figures was written
-pub timed : (old new : InputState) (before after : WriterState) (timings : Timings) (lost : LostFigures)
-    (text bytes : List ℕ) → MeasuresAll old (Ok (timings, lost)) new
-    → ((halves : List ℕ) → Measures timings halves → MeasuresLost lost halves → text ≡ timing_text halves)
+pub timed : (old new : InputState) (before after : WriterState) (figures : TrackFigures)
+    (text bytes : List ℕ) → MeasuresCapture old (Ok figures) new
+    → ((halves : List ℕ) → MeasuresTrack figures halves → text ≡ timing_text halves)
     → bytes ≡ text → Writes before bytes (Ok tt) after → Times old before (Ok tt) new after
-timed old new before after timings lost text bytes measured spelled same wrote = (
-  reads_other old new (λ halves. AllMeasured timings lost halves × (new.halves + length halves ≡ old.halves))
+timed old new before after figures text bytes measured spelled same wrote = (
+  reads_other old new (λ halves. MeasuresTrack figures halves × (new.halves + length halves ≡ old.halves))
       (λ halves. Appends before.contents after.contents (timing_text halves)
       × (new.halves + length halves ≡ old.halves))
       (λ halves is. (
-        subst (λ (l : List ℕ). Appends before.contents after.contents l) (same ∙ spelled halves is.0.0 is.0.1)
+        subst (λ (l : List ℕ). Appends before.contents after.contents l) (same ∙ spelled halves is.0)
             wrote.0,
         is.1,
       )) measured,
@@ -120,14 +114,14 @@ timed old new before after timings lost text bytes measured spelled same wrote =
 )
 
 -- a front of it was
-pub unwritten : (old new : InputState) (before after : WriterState) (timings : Timings) (lost : LostFigures)
-    (text bytes : List ℕ) (failed : Failed) → MeasuresAll old (Ok (timings, lost)) new
-    → ((halves : List ℕ) → Measures timings halves → MeasuresLost lost halves → text ≡ timing_text halves)
+pub unwritten : (old new : InputState) (before after : WriterState) (figures : TrackFigures)
+    (text bytes : List ℕ) (failed : Failed) → MeasuresCapture old (Ok figures) new
+    → ((halves : List ℕ) → MeasuresTrack figures halves → text ≡ timing_text halves)
     → bytes ≡ text → Writes before bytes (Err failed) after → Times old before (Err told.Write) new after
-unwritten old new before after timings lost text bytes failed measured spelled same wrote = (
-  reads_other old new (λ halves. AllMeasured timings lost halves × (new.halves + length halves ≡ old.halves))
+unwritten old new before after figures text bytes failed measured spelled same wrote = (
+  reads_other old new (λ halves. MeasuresTrack figures halves × (new.halves + length halves ≡ old.halves))
       (λ halves. AppendsFront before after (timing_text halves))
-      (λ halves is. subst (λ (l : List ℕ). AppendsFront before after l) (same ∙ spelled halves is.0.0 is.0.1)
+      (λ halves is. subst (λ (l : List ℕ). AppendsFront before after l) (same ∙ spelled halves is.0)
       wrote.0) measured,
   wrote.1,
 )

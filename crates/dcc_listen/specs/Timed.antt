@@ -8,10 +8,8 @@ use Rattle.dcc_io.specs.InputState.{InputState}
 use Rattle.dcc_io.specs.WriterState.{WriterState}
 use Rattle.dcc_io.specs.WrittenBytes.{AppendsFront}
 use Rattle.dcc_capture.specs.Capture.{captures, IsOfCapture, CaptureLinesAt}
-use Rattle.dcc_lost.specs.declared.figures.LostFigures.{LostFigures}
-use Rattle.dcc_lost.specs.MeasuresLost.{MeasuresLost}
-use Rattle.dcc_timing.specs.declared.timings.Timings.{Timings}
-use Rattle.dcc_timing.specs.Measures.{Measures}
+use Rattle.dcc_lost.specs.declared.figures.TrackFigures.{TrackFigures}
+use Rattle.dcc_lost.specs.MeasuresTrack.{MeasuresTrack}
 use Rattle.dcc_listen.specs.TimingText.{timing_text}
 
 -- a capture was read up to the error `fault`, which the input then stores
@@ -20,20 +18,12 @@ pub record StopsTiming (old : InputState) (fault : KeptFault) (new : InputState)
   pub reads : ReadsTo captures old fault new (λ halves. Unit {0})
   pub lines : CaptureLinesAt old fault new
 
--- if the result is Ok, the whole capture was read, and `timings` are the statistics of its
--- half-bits. If the result is an error, the capture was read up to the error.
-abbrev pub MeasuresCapture : InputState → Result Timings KeptFault → InputState → Type 0
-MeasuresCapture old (Ok timings) new =
-    ReadsAll captures old new (λ halves. Measures timings halves × (new.halves + length halves ≡ old.halves))
+-- if the result is Ok, the whole capture was read, and `figures` are all statistics of its half-bits.
+-- If the result is an error, the capture was read up to the error.
+abbrev pub MeasuresCapture : InputState → Result TrackFigures KeptFault → InputState → Type 0
+MeasuresCapture old (Ok figures) new =
+    ReadsAll captures old new (λ halves. MeasuresTrack figures halves × (new.halves + length halves ≡ old.halves))
 MeasuresCapture old (Err fault) new = StopsTiming old fault new
-
--- if the result is Ok, the whole capture was read, and the result has the two parts of its
--- statistics. If the result is an error, the capture was read up to the error.
-abbrev pub MeasuresAll : InputState → Result (Timings × LostFigures) KeptFault → InputState → Type 0
-MeasuresAll old (Ok (timings, lost)) new =
-    ReadsAll captures old new
-    (λ halves. (Measures timings halves × MeasuresLost lost halves) × (new.halves + length halves ≡ old.halves))
-MeasuresAll old (Err fault) new = StopsTiming old fault new
 
 -- If the result of `timing` is Ok, the whole capture was read, and then the text of its statistics
 -- was written. After an error of the capture, nothing was written. After a failed write, a prefix

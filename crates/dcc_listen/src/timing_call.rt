@@ -2,13 +2,13 @@
 ghost use Rattle.std.specs.Prelude.{◌≡◌, None, IfSome};
 ghost use Rattle.dcc_io.specs.Faults.{as_tool_fault};
 ghost use Rattle.dcc_io.specs.InputState.{ReadHasFailure};
-ghost use Rattle.dcc_listen.specs.Timed.{MeasuresAll, MeasuresCapture, Times};
+ghost use Rattle.dcc_listen.specs.Timed.{MeasuresCapture, Times};
 
 use crate::timing_text::timing_text;
-use dcc_capture::next_run;
+use dcc_capture::read_run;
+use dcc_io::inputs::take_buffered_half;
 use dcc_io::{Input, KeptFault, Sink, Source, ToolFault, write_all};
-use dcc_lost::LostFigures;
-use dcc_timing::Timings;
+use dcc_lost::TrackFigures;
 
 /// Writes the statistics of a capture. Each line has a name, and then a number, two limits or the
 /// word `none`. The limits are those of NMRA S-9.1 for a station and for a decoder.
@@ -32,43 +32,26 @@ pub fn timing<R: Source, W: Sink>(input: &mut Input<R>, writer: &mut W) -> Resul
     if let Some(fault) = input.fault() {
         return Err(ToolFault::from(fault));
     }
-    let (timings, lost) = measure_all(input)?;
-    Ok(write_all(writer, timing_text(&timings, &lost).as_slice())?)
+    let figures = measure(input)?;
+    Ok(write_all(writer, timing_text(&figures).as_slice())?)
 }
 
-/// Reads a capture to its end, and returns all its statistics.
-fn measure_all<R: Source>(input: &mut Input<R>) -> Result<(Timings, LostFigures), KeptFault>
-    requires { input.old.fault ≡ None }
-    ensures { MeasuresAll input.old result input.new }
-{
-    // the limit allows fewer than 2^32 half-bits
-    let most = input.halves_left();
-    let mut timings = Timings::new();
-    let mut lost = LostFigures::new();
-    'runs: loop {
-        match next_run(input)? {
-            Some(run) => {
-                timings.take(run.us, run.n);
-                lost.push_run(run.us, run.n);
-            }
-            None => return Ok((timings, lost)),
-        }
-    }
-}
-
-/// Reads a capture to its end, and returns the statistics of its half-bits and of the packets that
-/// are seen.
-pub fn measure<R: Source>(input: &mut Input<R>) -> Result<Timings, KeptFault>
+/// Reads a capture to its end, and returns all its statistics. Most words are durations that the
+/// buffer contains completely.
+pub fn measure<R: Source>(input: &mut Input<R>) -> Result<TrackFigures, KeptFault>
     requires { input.old.fault ≡ None }
     ensures { MeasuresCapture input.old result input.new }
 {
     // the limit allows fewer than 2^32 half-bits
     let most = input.halves_left();
-    let mut timings = Timings::new();
+    let mut figures = TrackFigures::new();
     'runs: loop {
-        match next_run(input)? {
-            Some(run) => timings.take(run.us, run.n),
-            None => return Ok(timings),
+        match take_buffered_half(input) {
+            Some(us) => figures.push(us),
+            None => match read_run(input)? {
+                Some(run) => figures.push_run(run.us, run.n),
+                None => return Ok(figures),
+            },
         }
     }
 }

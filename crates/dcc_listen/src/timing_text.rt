@@ -8,24 +8,23 @@ ghost use Rattle.dcc_timing.specs.Tallies.{IsTally};
 ghost use Rattle.dcc_timing.specs.Classes.{AreClasses};
 ghost use Rattle.dcc_timing.specs.Outcomes.{AreOutcomes};
 ghost use Rattle.dcc_timing.specs.PacketBits.{AreBits};
-ghost use Rattle.dcc_timing.specs.Measures.{Measures};
-ghost use Rattle.dcc_lost.specs.MeasuresLost.{MeasuresLost};
+ghost use Rattle.dcc_lost.specs.MeasuresTrack.{MeasuresTrack};
 ghost use Rattle.dcc_listen.specs.TimingText.{bit_lines, figure_line, mean_line, mean_or_none, number_or_none};
 ghost use Rattle.dcc_listen.specs.TimingText.{other_lines, outcome_lines, tally_lines, timing_text};
 
 use arrayvec::ArrayVec;
 use dcc_io::append;
-use dcc_lost::LostFigures;
-use dcc_timing::{Bits, Classes, Mean, Outcomes, Tally, Timings};
+use dcc_lost::TrackFigures;
+use dcc_timing::{Bits, Classes, Mean, Outcomes, Tally};
 
 /// A text with capacity for all lines of the statistics.
 pub(crate) type Text = ArrayVec<u8, 2048>;
 
 /// Returns the lines of all statistics.
-pub(crate) fn timing_text(timings: &Timings, lost: &LostFigures) -> Text
-    ensures { (halves : List ℕ) → Measures timings.now halves → MeasuresLost lost.now halves
-        → result.items ≡ timing_text halves }
+pub(crate) fn timing_text(figures: &TrackFigures) -> Text
+    ensures { (halves : List ℕ) → MeasuresTrack figures.now halves → result.items ≡ timing_text halves }
 {
+    let timings = figures.timings();
     let mut text = Text::new();
     add_figure(
         &mut text,
@@ -35,12 +34,12 @@ pub(crate) fn timing_text(timings: &Timings, lost: &LostFigures) -> Text
     );
     add_figure(&mut text, b"time", b" ", Some(timings.time()));
     add_outcomes(&mut text, timings.outcomes());
-    add_figure(&mut text, b"lost", b" ", Some(u64::from(lost.lost())));
+    add_figure(&mut text, b"lost", b" ", Some(u64::from(figures.lost())));
     add_figure(
         &mut text,
         b"preamble",
         b" least ",
-        as_number(lost.shortest_preamble()),
+        as_number(figures.shortest_preamble()),
     );
     add_figure(&mut text, b"gap", b" most ", timings.longest_gap());
     add_bits(&mut text, timings.classes(), timings.bits());

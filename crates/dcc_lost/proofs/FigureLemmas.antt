@@ -1,7 +1,7 @@
 -- The number of lost packets and the shortest preamble, after one more half-bit.
 use Rattle.std.proofs.Common.{◌≡◌, ◌≢◌, ℕ, ◌+◌, ◌-◌, ◌*◌, ◌≤◌, min, List, [], ◌∷◌, ◌++◌, length, take, map}
 use Rattle.std.proofs.Common.{fold, get_or, Option, None, Some, refl, sym, ap}
-use Rattle.std.proofs.Common.{◌∙◌, arith, subst, append-nil, append_assoc, length-append, nat_lt, if◌then◌else◌}
+use Rattle.std.proofs.Common.{◌∙◌, arith, subst, append-nil, append_assoc, length-append, if◌then◌else◌}
 use Rattle.std.specs.List.{filter_map}
 use Rattle.std.specs.Option.{is_some, option_map}
 use Rattle.std.proofs.Math.Nat.{min_comm}
@@ -22,16 +22,16 @@ use Rattle.dcc_timing.proofs.RecentLemmas.{keep_last_behind, keep_last_keep}
 use Rattle.dcc_lost.specs.declared.causes.LostPacket.{LostPacket}
 use Rattle.dcc_lost.specs.Causes.{packet_lost, packets_lost, packets_lost_after, report_lost, with_causes}
 use Rattle.dcc_wire.specs.Framing.{ones_at_end, ones_before, starts_below, used_up}
-use Rattle.dcc_lost.specs.declared.finder.LostFinder.{LostFinder}
-use Rattle.dcc_lost.specs.Figures.{AreLostFigures, preambles_from}
-use Rattle.dcc_lost.specs.Reads.{Follows}
+use Rattle.dcc_timing.specs.declared.timings.Timings.{Timings}
+use Rattle.dcc_timing.specs.Measures.{Measures}
+use Rattle.dcc_lost.specs.declared.figures.Ended.{Ended}
+use Rattle.dcc_lost.specs.Figures.{AreLostFigures, AreTrackFigures, ended_preamble, preambles_from}
 use Rattle.dcc_lost.specs.Inner.{frame_ended, lesser_of}
 use Rattle.dcc_lost.specs.Lost.{frame_lost}
 use Rattle.dcc_lost.specs.Preambles.{lost_packet_at, packets_seen_or_lost, preamble_at_end, preamble_of}
 use Rattle.dcc_lost.specs.Preambles.{all_unused_at_end, lost_count, nearest_ones_at_end, shortest_preamble}
 use Rattle.dcc_lost.proofs.LostLemmas.{heard}
-use Rattle.dcc_lost.specs.Unused.{unused_at_end}
-use Rattle.dcc_lost.proofs.PreambleLemmas.{preamble_before, preambles_from-push, unused_more}
+use Rattle.dcc_lost.proofs.PreambleLemmas.{preamble_before, preambles_from-push}
 use Rattle.dcc_lost.proofs.RunLemmas.{packets_lost-push}
 
 -- the least number of a list with one number more
@@ -172,17 +172,19 @@ lost_none : lost_count [] ≡ 0
 unfolding packets_lost packets_lost_after
 lost_none = refl
 
-pub none_measured : (finder : LostFinder) (last : List ℕ) → Follows finder [] → last ≡ []
-    → AreLostFigures finder 0 0 last 0 None []
+pub none_measured : (timings : Timings) (ended : Ended) (last : List ℕ) → Measures timings [] → ended.lost ≡ 0
+    → ended_preamble ended ≡ None → last ≡ [] → AreTrackFigures timings ended 0 0 last []
 unfolding preambles_from
-none_measured finder last follows none = record {
-  follows = follows;
-  ones_are = rw ones_none refl;
-  unused_are = rw all_unused_none refl;
-  preambles = none;
-  count = rw lost_none refl;
-  few = omega (arith, lost_none);
-  least = sym shortest_none;
+none_measured timings ended last measures lost shortest none = record {
+  measured = measures;
+  lost = record {
+    ones_are = rw ones_none refl;
+    unused_are = rw all_unused_none refl;
+    preambles = none;
+    count = lost ∙ omega (arith, lost_none);
+    few = omega (arith, lost_none);
+    least = shortest ∙ sym shortest_none;
+  };
 }
 
 -- one more half-bit
@@ -295,24 +297,24 @@ module _ (durations : List ℕ) (us : ℕ) where
       ∙ length-append (packets_lost durations) _ in
       omega (arith, all, one, reported frame)
 
-  pub figures_more : (finder next : LostFinder) (ones unused lost : ℕ) (last : List ℕ) (shortest : Option ℕ)
-      (answer : Seen) (frame : Option (List ℕ)) (before ones' unused' short more lost' : ℕ) (last' : List ℕ)
-      (ended least : Option ℕ)
-      → AreLostFigures finder ones unused last lost shortest durations
+  pub figures_more : (ended next : Ended) (ones unused : ℕ) (last : List ℕ) (answer : Seen) (frame : Option (List ℕ))
+      (before ones' unused' : ℕ) (last' : List ℕ)
+      → AreLostFigures ended ones unused last durations
       → before ≡ min ones unused → last' ≡ keep_last 130 (last ++ before ∷ [])
-      → Follows next longer → seen longer ≡ seen durations ++ report_at (length durations) answer
+      → seen longer ≡ seen durations ++ report_at (length durations) answer
       → frame ≡ frame_lost durations us → ones' ≡ min 65535 (nearest_ones_at_end longer)
-      → short ≡ unused_at_end longer
-      → unused' ≡ (if nat_lt short 20 then short else min 65535 (unused + 1))
-      → more ≡ (if is_some frame then 1 else 0) → lost' ≡ min 4294967295 (lost + more)
+      → unused' ≡ min 65535 (all_unused_at_end longer)
+      → next.lost ≡ min 4294967295 (ended.lost + (if is_some frame then 1 else 0))
       → (last' ≡ keep_last 130 (preambles_from [] longer)
-      → ended ≡ option_map (λ bytes. preamble_of longer (length longer, bytes)) (frame_ended answer frame))
-      → least ≡ lesser_of shortest ended
-      → AreLostFigures next ones' unused' last' lost' least longer
+      → ended_preamble next
+      ≡ lesser_of (ended_preamble ended)
+      (option_map (λ bytes. preamble_of longer (length longer, bytes)) (frame_ended answer frame)))
+      → AreLostFigures next ones' unused' last' longer
   unfolding preamble_at_end
-  figures_more finder next ones unused lost last shortest answer frame before ones' unused' short more lost' last'
-      ended least are befores lasts follows sees is ones_are shorts unuseds one counts endeds leasts =
-      let all = count_more frame more is one in
+  figures_more ended next ones unused last answer frame before ones' unused' last' are befores lasts sees is ones_are
+      unused_are counts leasts =
+      let more : ℕ = if is_some frame then 1 else 0 in
+      let all = count_more frame more is refl in
       let preamble : before ≡ preamble_at_end durations = omega (arith, befores, are.ones_are, are.unused_are) in
       let recent : last' ≡ keep_last 130 (preambles_from [] longer) =
       lasts ∙ ap (λ l. keep_last 130 (l ++ before ∷ [])) are.preambles
@@ -320,21 +322,34 @@ module _ (durations : List ℕ) (us : ℕ) where
       ∙ ap (λ n. keep_last 130 (preambles_from [] durations ++ n ∷ [])) preamble
       ∙ ap (keep_last 130) (sym (preambles_from-push [] durations us)) in
       record {
-        follows = follows;
         ones_are = ones_are;
-        unused_are = unused_more durations us unused short unused' are.follows.heard.below are.unused_are shorts
-            unuseds;
+        unused_are = unused_are;
         preambles = recent;
         count = omega (arith, counts, are.count, all);
-        few = omega (arith, are.few, one_at_most frame more one, all, length-append durations (us ∷ []));
-        least = leasts ∙ ap (λ l. lesser_of l ended) are.least
-            ∙ ap (λ l. lesser_of (shortest_preamble durations) l) (endeds recent)
+        few = omega (arith, are.few, one_at_most frame more refl, all, length-append durations (us ∷ []));
+        least = leasts recent ∙ ap (λ l. lesser_of l (ended_of longer)) are.least
             ∙ sym (shortest_more answer frame sees is);
       }
     where
       one_at_most : (frame : Option (List ℕ)) (more : ℕ) → more ≡ (if is_some frame then 1 else 0) → more ≤ 1
       one_at_most None more e = omega (arith, e)
       one_at_most (Some bytes) more e = omega (arith, e)
+
+      ended_of : List ℕ → Option ℕ
+      ended_of all = option_map (λ bytes. preamble_of all (length all, bytes)) (frame_ended answer frame)
+
+  -- a half-bit at which no packet ends
+  pub figures_quiet : (ended : Ended) (ones unused : ℕ) (last : List ℕ) (before ones' unused' : ℕ) (last' : List ℕ)
+      → AreLostFigures ended ones unused last durations
+      → before ≡ min ones unused → last' ≡ keep_last 130 (last ++ before ∷ [])
+      → seen longer ≡ seen durations → frame_lost durations us ≡ None
+      → ones' ≡ min 65535 (nearest_ones_at_end longer) → unused' ≡ min 65535 (all_unused_at_end longer)
+      → AreLostFigures ended ones' unused' last' longer
+  unfolding report_at
+  figures_quiet ended ones unused last before ones' unused' last' are befores lasts same none ones_are unused_are =
+      figures_more ended ended ones unused last Nothing None before ones' unused' last' are befores lasts
+      (same ∙ sym (append-nil (seen durations))) (sym none) ones_are unused_are (omega (arith, are.count))
+      (λ recent. refl)
 
 -- the preamble of a packet at the end
 

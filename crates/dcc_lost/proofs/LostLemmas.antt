@@ -1,10 +1,10 @@
 -- What a finder answers.
-use Rattle.std.proofs.Common.{◌≡◌, ◌≢◌, ℕ, ◌+◌, ◌*◌, ◌≤◌, List, [], ◌∷◌, ◌++◌, length, None, ap, ◌∙◌, arith}
+use Rattle.std.proofs.Common.{◌≡◌, ◌≢◌, ℕ, ◌+◌, ◌*◌, ◌≤◌, List, [], ◌∷◌, ◌++◌, length, None, refl, ap, ◌∙◌, arith}
 use Rattle.std.proofs.Common.{append-nil, if◌then◌else◌, length-append}
 use Rattle.std.proofs.lemmas.Bool.Decides.{nat_tests}
 use Rattle.dcc_wire.specs.declared.seen.Seen.{Seen}
 use Rattle.dcc_wire.specs.declared.seen.Seen.TheVariants.{Nothing}
-use Rattle.dcc_wire.specs.Framing.{Rest, seen, StandsFor, report_at}
+use Rattle.dcc_wire.specs.Framing.{Rest, rest, seen, StandsFor, report_at}
 use Rattle.dcc_timing.specs.Numbers.{keep_last}
 use Rattle.dcc_timing.proofs.RecentLemmas.{keep_last_keep}
 use Rattle.dcc_wire.specs.Framing.{is_hunting}
@@ -58,3 +58,17 @@ pub found : (durations : List ℕ) (us : ℕ) (answer : Seen) (framer : Rest)
     → (if is_hunting framer then longest_frame_at_end (durations ++ us ∷ []) else None) ≡ frame_lost durations us
 unfolding frame_lost
 found durations us answer framer sees nothing stands = rw (unheard durations us answer framer sees nothing stands)
+
+-- the same by the framer of the definition
+pub found_at : (durations : List ℕ) (us : ℕ) (answer : Seen)
+    → seen (durations ++ us ∷ []) ≡ seen durations ++ report_at (length durations) answer → answer ≡ Nothing
+    → (if is_hunting (rest (durations ++ us ∷ [])) then longest_frame_at_end (durations ++ us ∷ []) else None)
+    ≡ frame_lost durations us
+unfolding StandsFor
+found_at durations us answer sees nothing = found durations us answer (rest (durations ++ us ∷ [])) sees nothing refl
+
+pub nothing_seen : (durations : List ℕ) (us : ℕ) (answer : Seen)
+    → seen (durations ++ us ∷ []) ≡ seen durations ++ report_at (length durations) answer → answer ≡ Nothing
+    → seen (durations ++ us ∷ []) ≡ seen durations
+unfolding report_at
+nothing_seen durations us answer sees nothing = sees ∙ rw nothing (append-nil (seen durations))

@@ -1,21 +1,20 @@
 -- The preamble at the end of a list of half-bits, after one more half-bit.
 use Rattle.std.proofs.Common.{◌≡◌, ◌≢◌, ℕ, suc, ◌+◌, ◌-◌, ◌<◌, ◌≤◌, min, List, [], ◌∷◌, ◌++◌, length, take, map}
-use Rattle.std.proofs.Common.{get_or, Option, None, Some, IfSome, refl, sym, ap, ◌∙◌, arith, inl, inr, if◌then◌else◌}
-use Rattle.std.proofs.Common.{append-nil, append_assoc, length-append, nat_le, nat_lt, Bool, true, false}
-use Rattle.std.proofs.lemmas.Bool.{cases_lt}
-use Rattle.std.proofs.lemmas.Bool.Decides.{nat_tests}
+use Rattle.std.proofs.Common.{get_or, Option, None, Some, IfSome, refl, sym, ap, ◌∙◌, arith}
+use Rattle.std.proofs.Common.{append-nil, append_assoc, length-append, subst, true, false}
 use Rattle.std.proofs.lemmas.List.{map-append, get_or-drop}
 use Rattle.dcc_wire.specs.declared.half.Half.{Half}
 use Rattle.dcc_wire.specs.declared.half.Half.TheVariants.{One, Zero, Bad}
 use Rattle.dcc_wire.specs.declared.seen.Seen.{Seen}
-use Rattle.dcc_wire.specs.declared.seen.Seen.TheVariants.{Nothing}
-use Rattle.dcc_wire.specs.Framing.{Rest, Hunting, InBody, rest, seen, report_at, ones_at_end, ones_before}
+use Rattle.dcc_wire.specs.declared.seen.Seen.TheVariants.{Nothing, Packet, Refused}
+use Rattle.dcc_wire.specs.Framing.{Rest, Hunting, InBody, is_hunting, rest, seen, report_at, ones_at_end, ones_before}
 use Rattle.dcc_wire.specs.Framing.{starts_below, used_up}
 use Rattle.dcc_wire.specs.Half.{class_of}
-use Rattle.dcc_wire.specs.Inner.Steps.{answer_of, answer_to, left_of, rest_after}
-use Rattle.dcc_wire.specs.Outcomes.{outcome_of}
+use Rattle.dcc_wire.specs.Inner.Steps.{answer_to, left_of, rest_after}
+use Rattle.dcc_wire.specs.Outcomes.{ones_left}
 use Rattle.dcc_wire.proofs.FramingLemmas.{reported_something, rest-push, seen-push}
-use Rattle.dcc_wire.proofs.OutcomeLemmas.{ones_left_le, outcome_of-something}
+use Rattle.dcc_wire.proofs.OutcomeLemmas.{outcome_of-something}
+use Rattle.dcc_wire.proofs.SeenLemmas.{seen-none}
 use Rattle.dcc_timing.specs.Numbers.{keep_last}
 use Rattle.dcc_lost.specs.Figures.{preambles_from}
 use Rattle.dcc_lost.specs.Nearest.{nearest_class}
@@ -23,10 +22,41 @@ use Rattle.dcc_lost.specs.Preambles.{all_unused_at_end, nearest_ones_at_end, pre
 use Rattle.dcc_lost.specs.Unused.{last_outcome, unused_after, unused_at_end}
 use Rattle.dcc_lost.proofs.CauseLemmas.{ones_at_end-one, ones_at_end-other}
 use Rattle.dcc_lost.proofs.HeardLemmas.{last_outcome-push}
-use Rattle.dcc_lost.proofs.UsedLemmas.{all_unused_by_last, all_unused_left}
+use Rattle.dcc_lost.proofs.UsedLemmas.{all_unused_by_last}
 
-none_some : {A : Type 0} {a : Option A} {b : A} → a ≡ None → a ≡ Some b → ⊥
-none_some none some = absurd (cc)
+-- the last outcome of a list has its place in the list
+
+abbrev LastBelow : List (ℕ × Seen) → ℕ → Type 0
+LastBelow outcomes count = IfSome (last_outcome outcomes) (λ outcome. outcome.0 < count)
+
+one_more : (last : Option (ℕ × Seen)) (count : ℕ) → IfSome last (λ outcome. outcome.0 < count)
+    → IfSome last (λ outcome. outcome.0 < count + 1)
+one_more None count below = tt
+one_more (Some outcome) count below = omega (arith, below)
+
+below_next : (outcomes : List (ℕ × Seen)) (count : ℕ) (answer : Seen) → LastBelow outcomes count
+    → LastBelow (outcomes ++ report_at count answer) (count + 1)
+unfolding report_at
+below_next outcomes count Nothing below = rw append-nil (one_more (last_outcome outcomes) count below)
+below_next outcomes count (Packet bytes) below = rw last_outcome-push (omega arith)
+below_next outcomes count (Refused fault) below = rw last_outcome-push (omega arith)
+
+below_push : (durations : List ℕ) (us : ℕ) → LastBelow (seen durations) (length durations)
+    → LastBelow (seen (durations ++ us ∷ [])) (length (durations ++ us ∷ []))
+below_push durations us below =
+    rw (seen-push durations us, length-append durations (us ∷ []))
+    (below_next (seen durations) (length durations) (answer_to (rest durations) (class_of us)) below)
+
+below_list : (durations more : List ℕ) → LastBelow (seen durations) (length durations)
+    → LastBelow (seen (durations ++ more)) (length (durations ++ more))
+below_list durations [] below = rw append-nil below
+below_list durations (us ∷ more) below =
+    subst (λ l. LastBelow (seen l) (length l)) (append_assoc durations (us ∷ []) more)
+    (below_list (durations ++ us ∷ []) more (below_push durations us below))
+
+last_below : (durations : List ℕ) → LastBelow (seen durations) (length durations)
+unfolding last_outcome
+last_below durations = below_list [] durations (rw seen-none tt)
 
 -- half-bits that no outcome uses
 
@@ -36,83 +66,65 @@ unfolding unused_after
 after_more count None below = refl
 after_more count (Some (place, outcome)) below = omega (arith, below)
 
-after_new : (count : ℕ) (answer : Seen) → unused_after (count + 1) (Some (count, answer)) ≤ 2
+after_new : (count : ℕ) (answer : Seen) → unused_after (count + 1) (Some (count, answer)) ≡ ones_left answer
 unfolding unused_after
-after_new count answer = omega (arith, ones_left_le answer)
+after_new count answer = omega arith
 
-hunts_more : (begins : Bool) (halves : List Half) (count : ℕ) (last : Option (ℕ × Seen))
-    → IfSome last (λ outcome. outcome.0 < count)
-    → 20 ≤ all_unused_left (if begins then InBody halves else Hunting 0) (count + 1) last
-    → all_unused_left (if begins then InBody halves else Hunting 0) (count + 1) last ≡ unused_after count last + 1
-hunts_more true halves count last below many = absurd (omega (arith, many))
-hunts_more false halves count last below many = after_more count last below
+-- an unfinished body stays unfinished without an outcome
+hunts_before : (framer : Rest) (half : Half) → is_hunting (rest_after framer half) ≡ true
+    → answer_to framer half ≡ Nothing → is_hunting framer ≡ true
+unfolding rest_after answer_to left_of
+hunts_before (Hunting ones) half hunts nothing = refl
+hunts_before (InBody halves) half hunts nothing =
+    let none = outcome_of-something (halves ++ half ∷ []) nothing in
+    absurd (let busy = rw none at hunts in cc)
 
--- with an outcome there are few of them, and in a body none
-body_more : (halves : List Half) (outcome : Option (ℕ × Seen)) (count : ℕ) (outcomes : List (ℕ × Seen)) (answer : Seen)
-    → (answer ≡ Nothing → outcome ≡ None)
-    → 20 ≤ all_unused_left (left_of halves outcome) (count + 1) (last_outcome (outcomes ++ report_at count answer))
-    → all_unused_left (left_of halves outcome) (count + 1) (last_outcome (outcomes ++ report_at count answer)) ≡ 0 + 1
-unfolding left_of
-body_more halves None count outcomes answer none many = absurd (omega (arith, many))
-body_more halves (Some p) count outcomes answer none many =
-    let something : answer ≢ Nothing = λ nothing. none_some (none nothing) refl in
-    let ends : last_outcome (outcomes ++ report_at count answer) ≡ Some (count, answer) =
-    ap (λ l. last_outcome (outcomes ++ l)) (reported_something count answer something)
-    ∙ last_outcome-push outcomes (count, answer) in
-    absurd (omega (arith, (rw ends at many), after_new count answer))
+answer_none : (outcomes : List (ℕ × Seen)) (place : ℕ) (answer : Seen) → outcomes ≡ outcomes ++ report_at place answer
+    → answer ≡ Nothing
+unfolding report_at
+answer_none outcomes place Nothing e = refl
+answer_none outcomes place (Packet bytes) e =
+    absurd (omega (arith, ap length e, length-append outcomes ((place, Packet bytes) ∷ [])))
+answer_none outcomes place (Refused fault) e =
+    absurd (omega (arith, ap length e, length-append outcomes ((place, Refused fault) ∷ [])))
 
-left_more : (framer : Rest) (half : Half) (count : ℕ) (outcomes : List (ℕ × Seen))
-    → IfSome (last_outcome outcomes) (λ outcome. outcome.0 < count)
-    → 20 ≤ all_unused_left (rest_after framer half) (count + 1)
-    (last_outcome (outcomes ++ report_at count (answer_to framer half)))
-    → all_unused_left (rest_after framer half) (count + 1)
-    (last_outcome (outcomes ++ report_at count (answer_to framer half)))
-    ≡ all_unused_left framer count (last_outcome outcomes) + 1
-unfolding rest_after answer_to report_at left_of
-left_more (Hunting ones) One count outcomes below many =
-    rw append-nil (after_more count (last_outcome outcomes) below)
-left_more (Hunting ones) Bad count outcomes below many =
-    rw append-nil (after_more count (last_outcome outcomes) below)
-left_more (Hunting ones) Zero count outcomes below many =
-    let same : outcomes ++ [] ≡ outcomes = append-nil outcomes in
-    rw same (hunts_more (nat_le 20 ones) (Zero ∷ []) count (last_outcome outcomes) below (rw same at many))
-left_more (InBody halves) half count outcomes below many =
-    body_more (halves ++ half ∷ []) (outcome_of (halves ++ half ∷ [])) count outcomes
-    (answer_of (outcome_of (halves ++ half ∷ []))) (outcome_of-something (halves ++ half ∷ [])) many
+unused_hunting : (durations : List ℕ) → is_hunting (rest durations) ≡ true
+    → all_unused_at_end durations ≡ unused_after (length durations) (last_outcome (seen durations))
+unused_hunting durations hunts = all_unused_by_last durations ∙ rw hunts refl
 
-pub all_unused_more : (durations : List ℕ) (us : ℕ)
-    → IfSome (last_outcome (seen durations)) (λ outcome. outcome.0 < length durations)
-    → 20 ≤ all_unused_at_end (durations ++ us ∷ [])
-    → all_unused_at_end (durations ++ us ∷ []) ≡ all_unused_at_end durations + 1
-all_unused_more durations us below many =
-    let left : all_unused_at_end (durations ++ us ∷ [])
-    ≡ all_unused_left (rest_after (rest durations) (class_of us)) (length durations + 1)
-    (last_outcome (seen durations ++ report_at (length durations) (answer_to (rest durations) (class_of us)))) =
-    all_unused_by_last (durations ++ us ∷ [])
-    ∙ rw (rest-push durations us, seen-push durations us, length-append durations (us ∷ [])) refl in
-    left ∙ left_more (rest durations) (class_of us) (length durations) (seen durations) below (rw left at many)
-    ∙ ap (λ n. n + 1) (sym (all_unused_by_last durations))
+pub unused_busy : (durations : List ℕ) → is_hunting (rest durations) ≡ false → 0 ≡ all_unused_at_end durations
+unused_busy durations busy = sym (all_unused_by_last durations ∙ rw busy refl)
 
-unused_is_least : (durations : List ℕ) → unused_at_end durations ≡ min 20 (all_unused_at_end durations)
+module _ (durations : List ℕ) (us : ℕ) where
+  pub unused_quiet : seen (durations ++ us ∷ []) ≡ seen durations → is_hunting (rest (durations ++ us ∷ [])) ≡ true
+      → all_unused_at_end (durations ++ us ∷ []) ≡ all_unused_at_end durations + 1
+  unused_quiet same hunts =
+      let nothing = answer_none (seen durations) (length durations) (answer_to (rest durations) (class_of us))
+      (sym same ∙ seen-push durations us) in
+      let was = hunts_before (rest durations) (class_of us) (ap is_hunting (sym (rest-push durations us)) ∙ hunts)
+      nothing in
+      unused_hunting (durations ++ us ∷ []) hunts
+      ∙ ap (λ l. unused_after (length (durations ++ us ∷ [])) (last_outcome l)) same
+      ∙ ap (λ n. unused_after n (last_outcome (seen durations))) (length-append durations (us ∷ []))
+      ∙ after_more (length durations) (last_outcome (seen durations)) (last_below durations)
+      ∙ ap (λ n. n + 1) (sym (unused_hunting durations was))
+
+  pub unused_shown : (answer : Seen)
+      → seen (durations ++ us ∷ []) ≡ seen durations ++ report_at (length durations) answer
+      → answer ≢ Nothing → is_hunting (rest (durations ++ us ∷ [])) ≡ true
+      → ones_left answer ≡ all_unused_at_end (durations ++ us ∷ [])
+  unused_shown answer sees something hunts =
+      let ends : last_outcome (seen (durations ++ us ∷ [])) ≡ Some (length durations, answer) =
+      ap last_outcome (sees ∙ ap (λ l. seen durations ++ l) (reported_something (length durations) answer something))
+      ∙ last_outcome-push (seen durations) (length durations, answer) in
+      sym (unused_hunting (durations ++ us ∷ []) hunts
+      ∙ ap (unused_after (length (durations ++ us ∷ []))) ends
+      ∙ ap (λ n. unused_after n (Some (length durations, answer))) (length-append durations (us ∷ []))
+      ∙ after_new (length durations) answer)
+
+pub unused_is_least : (durations : List ℕ) → unused_at_end durations ≡ min 20 (all_unused_at_end durations)
 unfolding unused_at_end all_unused_at_end
 unused_is_least durations = refl
-
-pub unused_more : (durations : List ℕ) (us unused last next : ℕ)
-    → IfSome (last_outcome (seen durations)) (λ outcome. outcome.0 < length durations)
-    → unused ≡ min 65535 (all_unused_at_end durations) → last ≡ unused_at_end (durations ++ us ∷ [])
-    → next ≡ (if nat_lt last 20 then last else min 65535 (unused + 1))
-    → next ≡ min 65535 (all_unused_at_end (durations ++ us ∷ []))
-unused_more durations us unused last next below before after is =
-    let least = unused_is_least (durations ++ us ∷ []) in
-    elim (cases_lt last 20) [
-      | inl few ↦
-          let yes : nat_lt last 20 ≡ true = grind (arith, nat_tests) in
-          omega (arith, rw yes at is, few, after, least)
-      | inr many ↦
-          let no : nat_lt last 20 ≡ false = grind (arith, nat_tests) in
-          let more = all_unused_more durations us below (omega (arith, many, after, least)) in
-          omega (arith, rw no at is, before, more)
-    ]
 
 -- half-bits of ones
 

@@ -77,11 +77,11 @@ more_alike xs n x e =
 
 -- a framer that hunts before and after a half-bit begins no body with more of them
 
-record IsStopped (now : Rest) (half : Half) : Type 0 where
-  ones : ℕ
-  hunts : now ≡ Hunting ones
-  quiet : IsQuiet ones half
-  none : half ≢ One → ones ≡ 0
+pub record IsStopped (now : Rest) (half : Half) : Type 0 where
+  pub ones : ℕ
+  pub hunts : now ≡ Hunting ones
+  pub quiet : IsQuiet ones half
+  pub none : half ≢ One → ones ≡ 0
 
 stopped : (ones : ℕ) (half : Half) (now : Rest) → now ≡ rest_after (Hunting ones) half → is_hunting now ≡ true
     → IsStopped now half
@@ -109,14 +109,14 @@ hunting-unused durations e = elim (cases_Bool (is_hunting (rest durations))) [
   | inr told ↦ absurd (not_20 _ (if_not (is_hunting (rest durations)) _ told) (sym (unused_by_last durations) ∙ e))
 ]
 
-stop_after : (before : List ℕ) (us : ℕ) → unused_at_end before ≡ 20 → is_hunting (rest (before ++ us ∷ [])) ≡ true
+pub stop_after : (before : List ℕ) (us : ℕ) → unused_at_end before ≡ 20 → is_hunting (rest (before ++ us ∷ [])) ≡ true
     → IsStopped (rest (before ++ us ∷ [])) (class_of us)
 stop_after before us unused hunts =
     let was = hunting-is (rest before) (hunting-unused before unused) in
     stopped was.0 (class_of us) (rest (before ++ us ∷ []))
     (rest-push before us ∙ ap (λ r. rest_after r (class_of us)) was.1) hunts
 
-split_last : (durations : List ℕ) (us : ℕ) → keep_last 130 durations ≡ replicate 130 us
+pub split_last : (durations : List ℕ) (us : ℕ) → keep_last 130 durations ≡ replicate 130 us
     → (before : List ℕ) × (durations ≡ before ++ us ∷ [])
 split_last durations us e =
     let start : ℕ = length durations - 130 in
@@ -247,7 +247,7 @@ longest_none us durations e =
       end_none 3 us durations (omega arith) e,
     )
 
-frame_none : (durations : List ℕ) (us : ℕ) → keep_last 130 (durations ++ us ∷ []) ≡ replicate 130 us
+pub frame_none : (durations : List ℕ) (us : ℕ) → keep_last 130 (durations ++ us ∷ []) ≡ replicate 130 us
     → frame_lost durations us ≡ None
 unfolding frame_lost
 frame_none durations us e = elim (cases_Bool (is_unheard durations us)) [

@@ -13,4 +13,4 @@ pub mod Joining
 pub mod JoinedLaws
 pub mod Preambles
 pub mod Figures
-pub mod MeasuresLost
+pub mod MeasuresTrack

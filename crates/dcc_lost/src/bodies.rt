@@ -8,8 +8,8 @@ ghost use Rattle.dcc_wire.specs.Outcomes.{outcome_of};
 ghost use Rattle.dcc_lost.specs.Nearest.{nearest_class};
 ghost use Rattle.dcc_lost.specs.Lost.{frame_after_ones, packet_of_length};
 
-use crate::heard::push_framer;
 use crate::nearest::{corrected, is_nearest_zero, ones_before};
+use dcc_timing::push_framer;
 use dcc_wire::{Frame, Framer, Half, KeptFramer, Seen};
 
 /// Returns the outcome of the body that begins with the first of `halves`, whose half-bits have

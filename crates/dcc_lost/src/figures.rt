@@ -1,25 +1,28 @@
-//! The number of lost packets in a list of half-bits, and the shortest preamble in this list.
+//! All statistics of a list of half-bits: the statistics of the half-bits and of the packets that
+//! are seen, the number of lost packets, and the shortest preamble.
 
 ghost use Rattle.std.specs.Prelude.{ℕ, List};
 ghost use Rattle.dcc_timing.specs.Recent.{recent_numbers};
-ghost use Rattle.dcc_lost.specs.Figures.{AreLostFigures};
+ghost use Rattle.dcc_lost.specs.Figures.{AreTrackFigures, ended_preamble};
 
 use crate::causes::first_or_zero;
-use crate::finder::{LostFinder, are_all};
+use crate::finder::{are_all, has_start_bits, longest_frame_at_end};
 use crate::nearest::is_nearest_one;
-use dcc_timing::LastNumbers;
-use dcc_wire::{Frame, Seen};
+use dcc_timing::{LastNumbers, Timings};
+use dcc_wire::{Fault, Frame, Seen};
 
-/// The number of lost packets in a list of half-bits, and the shortest preamble of the packets that
-/// are seen or lost in this list (NMRA S-9.2).
+/// All statistics of a list of half-bits: a [`Timings`], the number of lost packets in the list, and
+/// the shortest preamble of the packets that are seen or lost there (NMRA S-9.1, S-9.2).
 ///
-/// The list grows by half-bits and by runs of equal half-bits, and the figures cover the whole list
-/// so far.
+/// The list grows by half-bits and by runs of equal half-bits, and each statistic covers the whole
+/// list so far. The statistics are plain numbers, so the memory of a C program can store them.
 ///
-/// Invariant: a list of half-bits has these figures.
+/// Invariant: a list of half-bits has these statistics.
+#[repr(C)]
 #[derive(Drop)]
-pub struct LostFigures {
-    finder: LostFinder,
+pub struct TrackFigures {
+    timings: Timings,
+    ended: Ended,
     /// The number of half-bits of ones at the end of the list, at most 65535. A half-bit counts as
     /// half of a one if its nearest class is One.
     ones: u16,
@@ -27,105 +30,292 @@ pub struct LostFigures {
     unused: u16,
     /// The preamble directly before each of the last 130 half-bits.
     preambles: LastNumbers,
-    lost: u32,
-    shortest: Option<u16>,
     ghost history: { ∥ ((durations : List ℕ)
-        × AreLostFigures finder ones unused (recent_numbers preambles) lost shortest durations) ∥₁ },
+        × AreTrackFigures timings ended ones unused (recent_numbers preambles) durations) ∥₁ },
 }
 
-impl LostFigures {
-    ghost use Rattle.std.specs.Prelude.{◌≡◌, ◌++◌, [], ◌∷◌, ℕ, List, min, replicate};
+/// The number of lost packets in a list of half-bits, and the shortest preamble of the packets that
+/// are seen or lost there.
+#[repr(C)]
+#[derive(Clone, Copy, Debug)]
+pub(crate) struct Ended {
+    /// The number of lost packets, at most 4294967295.
+    lost: u32,
+    /// True if the list has a packet. The field `shortest` is then the shortest preamble, in
+    /// half-bits and at most 65535.
+    has_packet: bool,
+    shortest: u16,
+}
+
+impl Ended {
+    ghost use Rattle.std.specs.Prelude.{◌≡◌, ◌+◌, ◌++◌, ◌∷◌, [], ℕ, List, None, min, length, if◌then◌else◌};
+    ghost use Rattle.std.specs.Option.{is_some, option_map};
+    ghost use Rattle.dcc_wire.specs.Framing.{report_at, seen};
+    ghost use Rattle.dcc_timing.specs.Measures.{Measures};
+    ghost use Rattle.dcc_timing.specs.Numbers.{keep_last};
+    ghost use Rattle.dcc_lost.specs.Figures.{preambles_from};
+    ghost use Rattle.dcc_lost.specs.Inner.{frame_ended, lesser_of};
+    ghost use Rattle.dcc_lost.specs.Lost.{frame_lost};
+    ghost use Rattle.dcc_lost.specs.Preambles.{preamble_of};
+
+    /// Creates the numbers of a list without packets.
+    fn new() -> Ended
+        ensures lost { result.lost ≡ 0 }
+        ensures shortest { ended_preamble result ≡ None }
+    {
+        Ended {
+            lost: 0,
+            has_packet: false,
+            shortest: 0,
+        }
+    }
+
+    /// Counts the packet that ends with the last half-bit of the list, if there is such a packet.
+    /// The half-bit has the outcome `outcome`, and `timings` are the statistics of the list. The
+    /// numbers `preambles` are the preambles directly before the last 130 half-bits.
+    #[inline(never)]
+    fn count(&mut self, timings: &Timings, preambles: &LastNumbers, outcome: &Seen)
+        ensures lost { (durations : List ℕ) (us : ℕ) → Measures timings.now (durations ++ us ∷ [])
+            → seen (durations ++ us ∷ []) ≡ seen durations ++ report_at (length durations) outcome.now
+            → self.new.lost
+            ≡ min 4294967295 (self.old.lost + (if is_some (frame_lost durations us) then 1 else 0)) }
+        ensures shortest { (durations : List ℕ) (us : ℕ) → Measures timings.now (durations ++ us ∷ [])
+            → seen (durations ++ us ∷ []) ≡ seen durations ++ report_at (length durations) outcome.now
+            → recent_numbers preambles.now ≡ keep_last 130 (preambles_from [] (durations ++ us ∷ []))
+            → ended_preamble self.new ≡ lesser_of (ended_preamble self.old)
+            (option_map (λ bytes. preamble_of (durations ++ us ∷ []) (length (durations ++ us ∷ []), bytes))
+            (frame_ended outcome.now (frame_lost durations us))) }
+    {
+        let lost = frame_lost(timings, outcome);
+        self.lost = self.lost.saturating_add(u32::from(lost.is_some()));
+        self.shorten(preamble_before(preambles, frame_ended(outcome, lost)));
+    }
+
+    /// Takes the preamble of one more packet. If `preamble` is `None`, nothing changes.
+    fn shorten(&mut self, preamble: Option<u16>)
+        ensures lost { self.new.lost ≡ self.old.lost }
+        ensures shortest { ended_preamble self.new ≡ lesser_of (ended_preamble self.old) preamble }
+    {
+        match preamble {
+            None => (),
+            Some(preamble) => {
+                self.shortest = lesser(self.has_packet, self.shortest, preamble);
+                self.has_packet = true;
+            }
+        }
+    }
+}
+
+impl TrackFigures {
+    ghost use Rattle.std.specs.Prelude.{◌≡◌, ◌<◌, ◌+◌, ◌^◌, ◌++◌, [], ◌∷◌, ℕ, List, min, length, replicate, false};
     ghost use Rattle.std.specs.Prelude.{◌↔◌, IsTrue};
+    ghost use Rattle.dcc_wire.specs.Framing.{is_hunting, rest};
+    ghost use Rattle.dcc_timing.specs.Measures.{Measures};
+    ghost use Rattle.dcc_timing.specs.Numbers.{keep_last};
     ghost use Rattle.dcc_lost.specs.Figures.{AreStill};
     ghost use Rattle.dcc_lost.specs.Preambles.{lost_count, shortest_preamble};
-    ghost use Rattle.dcc_lost.specs.MeasuresLost.{MeasuresLost};
+    ghost use Rattle.dcc_lost.specs.MeasuresTrack.{MeasuresTrack};
 
-    /// Creates the figures of the empty list of half-bits.
-    pub fn new() -> LostFigures
-        ensures { MeasuresLost result [] }
+    /// Creates the statistics of the empty list of half-bits.
+    pub fn new() -> TrackFigures
+        ensures { MeasuresTrack result [] }
     {
-        LostFigures {
-            finder: LostFinder::new(),
+        TrackFigures {
+            timings: Timings::new(),
+            ended: Ended::new(),
             ones: 0,
             unused: 0,
             preambles: LastNumbers::new(),
-            lost: 0,
-            shortest: None,
+        }
+    }
+
+    /// Appends a half-bit of `us` microseconds to the list. The longer list must have fewer than
+    /// 2^32 half-bits.
+    // each of the two usual classes has its own machine code
+    #[inline(always)]
+    pub fn push(&mut self, us: u16)
+        requires { self.old.timings.halves + 1 < 2 ^ 32 }
+        // Some list has the old statistics.
+        ensures history { ∥ ((durations : List ℕ) × MeasuresTrack self.old durations) ∥₁ }
+        // If a list has the old statistics, the list with this half-bit at its end has the new
+        // statistics.
+        ensures measures { (durations : List ℕ) → MeasuresTrack self.old durations
+            → MeasuresTrack self.new (durations ++ us ∷ []) }
+        ensures count { self.new.timings.halves ≡ self.old.timings.halves + 1 }
+    {
+        match us {
+            52..=64 => self.push_inline(us),
+            90..=10000 => self.push_inline(us),
+            _ => self.push_apart(us),
         }
     }
 
     /// Appends a half-bit of `us` microseconds to the list.
-    pub fn push(&mut self, us: u16)
-        // Some list has the old figures.
-        ensures history { ∥ ((durations : List ℕ) × MeasuresLost self.old durations) ∥₁ }
-        // If a list has the old figures, the list with this half-bit at its end has the new figures.
-        ensures measures { (durations : List ℕ) → MeasuresLost self.old durations
-            → MeasuresLost self.new (durations ++ us ∷ []) }
+    #[inline(never)]
+    fn push_apart(&mut self, us: u16)
+        requires { self.old.timings.halves + 1 < 2 ^ 32 }
+        ensures history { ∥ ((durations : List ℕ) × MeasuresTrack self.old durations) ∥₁ }
+        ensures measures { (durations : List ℕ) → MeasuresTrack self.old durations
+            → MeasuresTrack self.new (durations ++ us ∷ []) }
+        ensures count { self.new.timings.halves ≡ self.old.timings.halves + 1 }
     {
-        self.preambles.push(self.ones.min(self.unused));
-        let (seen, lost) = self.finder.push_framed(us);
-        let ended = frame_ended(&seen, lost);
-        self.ones = ones_next(self.ones, us);
-        self.unused = all_unused_next(self.unused, self.finder.unused());
-        self.lost = self.lost.saturating_add(u32::from(lost.is_some()));
-        self.shortest = lesser_of(self.shortest, preamble_before(&self.preambles, ended));
+        self.push_inline(us)
     }
 
-    /// Appends `n` half-bits of `us` microseconds to the list.
+    /// Appends a half-bit of `us` microseconds to the list.
+    #[inline(always)]
+    fn push_inline(&mut self, us: u16)
+        requires { self.old.timings.halves + 1 < 2 ^ 32 }
+        ensures history { ∥ ((durations : List ℕ) × MeasuresTrack self.old durations) ∥₁ }
+        ensures measures { (durations : List ℕ) → MeasuresTrack self.old durations
+            → MeasuresTrack self.new (durations ++ us ∷ []) }
+        ensures count { self.new.timings.halves ≡ self.old.timings.halves + 1 }
+    {
+        self.preambles.push(self.ones.min(self.unused));
+        let seen = self.timings.push(us);
+        self.ones = ones_next(self.ones, us);
+        self.unused = unused_next(self.unused, &seen, self.timings.is_hunting());
+        if !can_end_packet(&self.timings, us, &seen) {
+            return;
+        }
+        self.ended.count(&self.timings, &self.preambles, &seen);
+    }
+
+    /// Appends `n` half-bits of `us` microseconds to the list. The longer list must have fewer than
+    /// 2^32 half-bits.
     pub fn push_run(&mut self, us: u16, n: u32)
-        // Some list has the old figures.
-        ensures history { ∥ ((durations : List ℕ) × MeasuresLost self.old durations) ∥₁ }
-        // If a list has the old figures, the list with these half-bits at its end has the new figures.
-        ensures measures { (durations : List ℕ) → MeasuresLost self.old durations
-            → MeasuresLost self.new (durations ++ replicate n us) }
+        requires { self.old.timings.halves + n < 2 ^ 32 }
+        // Some list has the old statistics.
+        ensures history { ∥ ((durations : List ℕ) × MeasuresTrack self.old durations) ∥₁ }
+        // If a list has the old statistics, the list with these half-bits at its end has the new
+        // statistics.
+        ensures measures { (durations : List ℕ) → MeasuresTrack self.old durations
+            → MeasuresTrack self.new (durations ++ replicate n us) }
+        ensures count { self.new.timings.halves ≡ self.old.timings.halves + n }
     {
         let mut at = 0;
         'run: while at < n {
             self.push(us);
             at += 1;
-            // all numbers have their greatest values, or are 0
+            // after 65535 and then 130 half-bits of a run, more of them change only the counts of
+            // half-bits
             if at >= 66_000 && self.is_still(us) {
+                self.timings.take(us, n - at);
                 return;
             }
         }
     }
 
-    /// Returns true if more half-bits of `us` microseconds change nothing.
-    fn is_still(&self, us: u16) -> bool
-        ensures { IsTrue result ↔ AreStill self.now.finder self.now.ones self.now.unused
-            (recent_numbers self.now.preambles) us }
+    /// Appends `n` half-bits of `us` microseconds to the list, if the longer list has fewer than 2^32
+    /// half-bits. Otherwise returns false, and nothing changes.
+    pub fn try_push_run(&mut self, us: u16, n: u32) -> bool
+        ensures history { ∥ ((durations : List ℕ) × MeasuresTrack self.old durations) ∥₁ }
+        ensures measures { IsTrue result → (durations : List ℕ) → MeasuresTrack self.old durations
+            → MeasuresTrack self.new (durations ++ replicate n us) }
+        ensures fits { (durations : List ℕ) → MeasuresTrack self.old durations
+            → IsTrue result ↔ (length durations + n < 2 ^ 32) }
+        ensures left { result ≡ false → self.new ≡ self.old }
     {
-        self.unused == 65535
-            && is_steady(self.ones, us)
-            && are_all(self.preambles.last(130), self.ones)
-            && self.finder.is_still(us)
+        if self.timings.halves().checked_add(n).is_none() {
+            return false;
+        }
+        self.push_run(us, n);
+        true
+    }
+
+    /// Returns true if more half-bits of `us` microseconds have no outcome, lose no packet and leave
+    /// all preambles as they are.
+    fn is_still(&self, us: u16) -> bool
+        ensures { (durations : List ℕ) → MeasuresTrack self.now durations → IsTrue result
+            ↔ AreStill (is_hunting (rest durations)) self.now.ones self.now.unused
+            (keep_last 130 (recent_numbers self.now.preambles)) (keep_last 130 durations) us }
+    {
+        are_still(
+            self.timings.is_hunting(),
+            self.ones,
+            self.unused,
+            self.preambles.last(130),
+            self.timings.recent().last(130),
+            us,
+        )
+    }
+
+    /// Returns the statistics of the half-bits and of the packets that are seen.
+    pub fn timings(&self) -> &Timings
+        ensures { (durations : List ℕ) → MeasuresTrack self.now durations → Measures result.now durations }
+    {
+        &self.timings
     }
 
     /// Returns the number of lost packets, at most 4294967295.
     pub fn lost(&self) -> u32
-        ensures { (durations : List ℕ) → MeasuresLost self.now durations
+        ensures { (durations : List ℕ) → MeasuresTrack self.now durations
             → result ≡ min 4294967295 (lost_count durations) }
     {
-        self.lost
+        self.ended.lost
     }
 
     /// Returns the shortest preamble of the packets that are seen or lost, in half-bits and at most
     /// 65535. Returns `None` if there are no such packets.
     pub fn shortest_preamble(&self) -> Option<u16>
-        ensures { (durations : List ℕ) → MeasuresLost self.now durations → result ≡ shortest_preamble durations }
+        ensures { (durations : List ℕ) → MeasuresTrack self.now durations → result ≡ shortest_preamble durations }
     {
-        self.shortest
+        if self.ended.has_packet {
+            Some(self.ended.shortest)
+        } else {
+            None
+        }
     }
 }
 
-ghost use Rattle.std.specs.Prelude.{◌≡◌, ◌≤◌, ◌+◌, ◌-◌, ◌*◌, ◌++◌, [], ◌∷◌, min, nat_lt, length, take};
-ghost use Rattle.std.specs.Prelude.{if◌then◌else◌};
+ghost use Rattle.std.specs.Prelude.{◌≡◌, ◌≢◌, ◌++◌, [], ◌∷◌, min, length, false, None, if◌then◌else◌, ◌↔◌, IsTrue};
+ghost use Rattle.dcc_wire.specs.Outcomes.{ones_left};
 ghost use Rattle.std.specs.Option.{option_map};
+ghost use Rattle.dcc_wire.specs.Framing.{is_hunting, report_at, rest, seen};
+ghost use Rattle.dcc_timing.specs.Measures.{Measures};
 ghost use Rattle.dcc_timing.specs.Numbers.{keep_last};
-ghost use Rattle.std.specs.Prelude.{◌↔◌, IsTrue};
-ghost use Rattle.dcc_lost.specs.Figures.{IsSteady, preambles_from};
-ghost use Rattle.dcc_lost.specs.Inner.{frame_ended, lesser_of};
-ghost use Rattle.dcc_lost.specs.Preambles.{nearest_ones_at_end, preamble_of};
+ghost use Rattle.dcc_lost.specs.Figures.{AreStill, IsSteady, preambles_from};
+ghost use Rattle.dcc_lost.specs.Inner.{frame_ended};
+ghost use Rattle.dcc_lost.specs.Lost.{frame_lost};
+ghost use Rattle.dcc_lost.specs.Preambles.{all_unused_at_end, nearest_ones_at_end, preamble_of};
+
+/// Returns false if no packet ends with a half-bit. The half-bit has `us` microseconds and the
+/// outcome `outcome`, and `timings` are the statistics of the half-bits up to it. Most half-bits are no
+/// end of a packet.
+#[inline(always)]
+fn can_end_packet(timings: &Timings, us: u16, outcome: &Seen) -> bool
+    ensures nothing { result ≡ false → outcome.now ≡ Seen.Nothing }
+    ensures none { (durations : List ℕ) → Measures timings.now (durations ++ us ∷ [])
+        → seen (durations ++ us ∷ []) ≡ seen durations ++ report_at (length durations) outcome.now
+        → result ≡ false → frame_lost durations us ≡ None }
+{
+    if !outcome.is_nothing() {
+        return true;
+    }
+    if !is_nearest_one(us) {
+        return false;
+    }
+    if !timings.is_hunting() {
+        return false;
+    }
+    has_start_bits(timings.recent().last(56))
+}
+
+/// Returns the frame of the packet that is lost at the last half-bit of a list. This half-bit has
+/// the outcome `outcome`, and `timings` are the statistics of the list.
+fn frame_lost(timings: &Timings, outcome: &Seen) -> Option<Frame>
+    ensures { (durations : List ℕ) (us : ℕ) → Measures timings.now (durations ++ us ∷ [])
+        → seen (durations ++ us ∷ []) ≡ seen durations ++ report_at (length durations) outcome.now
+        → result ≡ frame_lost durations us }
+{
+    if !outcome.is_nothing() {
+        return None;
+    }
+    if !timings.is_hunting() {
+        return None;
+    }
+    longest_frame_at_end(timings.recent())
+}
 
 /// Returns the frame of the packet that ends with a half-bit: the packet of the outcome `seen`, or
 /// the packet with the frame `lost`, which is lost at this half-bit.
@@ -140,6 +330,7 @@ fn frame_ended(seen: &Seen, lost: Option<Frame>) -> Option<Frame>
 
 /// Returns the number of half-bits of ones at the end of a list, at most 65535, to which a half-bit
 /// of `us` microseconds was appended. Before, the number was `ones`.
+#[inline(always)]
 fn ones_next(ones: u16, us: u16) -> u16
     ensures { (durations : List ℕ) → ones ≡ min 65535 (nearest_ones_at_end durations)
         → result ≡ min 65535 (nearest_ones_at_end (durations ++ us ∷ [])) }
@@ -149,6 +340,15 @@ fn ones_next(ones: u16, us: u16) -> u16
     } else {
         0
     }
+}
+
+/// Returns true if more half-bits of `us` microseconds change no preamble. The numbers `ones` and
+/// `unused` belong to the end of a list, `last` are the last 130 preambles, and `recent` are the last
+/// 130 half-bits. The parameter `hunts` is false if a body is unfinished.
+fn are_still(hunts: bool, ones: u16, unused: u16, last: &[u16], recent: &[u16], us: u16) -> bool
+    ensures { IsTrue result ↔ AreStill hunts ones unused last.now recent.now us }
+{
+    unused == 65535 && hunts && is_steady(ones, us) && are_all(last, ones) && are_all(recent, us)
 }
 
 /// Returns true if a number `ones` of half-bits of ones stays the same when a half-bit of `us`
@@ -163,16 +363,35 @@ fn is_steady(ones: u16, us: u16) -> bool
     }
 }
 
-/// Returns the number of half-bits at the end of a list that no outcome uses, at most 65535. One
-/// half-bit was appended to the list, and before, the number was `unused`. The parameter `last` is
-/// the new number, at most 20.
-fn all_unused_next(unused: u16, last: u8) -> u16
-    ensures { result ≡ (if nat_lt last 20 then last else min 65535 (unused + 1)) }
+/// Returns the number of half-bits at the end of a list that no outcome uses, at most 65535. A
+/// half-bit with the outcome `outcome` was appended to the list, and before, the number was `unused`.
+/// The parameter `hunts` is false if a body is unfinished at the end of the list.
+#[inline(always)]
+fn unused_next(unused: u16, outcome: &Seen, hunts: bool) -> u16
+    ensures { (durations : List ℕ) (us : ℕ) → unused ≡ min 65535 (all_unused_at_end durations)
+        → seen (durations ++ us ∷ []) ≡ seen durations ++ report_at (length durations) outcome.now
+        → hunts ≡ is_hunting (rest (durations ++ us ∷ []))
+        → result ≡ min 65535 (all_unused_at_end (durations ++ us ∷ [])) }
 {
-    if last < 20 {
-        u16::from(last)
-    } else {
-        unused.saturating_add(1)
+    if !hunts {
+        return 0;
+    }
+    if outcome.is_nothing() {
+        return unused.saturating_add(1);
+    }
+    ones_left(outcome)
+}
+
+/// Returns the number of half-bits at the end of an outcome that can be the first half-bits of a
+/// preamble: the two half-bits of an end bit.
+#[tactic(auto, unfolding(dcc_wire::specs::Outcomes::ones_left))]
+fn ones_left(seen: &Seen) -> u16
+    ensures { seen.now ≢ Seen.Nothing → result ≡ ones_left seen.now }
+{
+    match seen {
+        Seen::Nothing => 0,
+        Seen::Packet(_) | Seen::Refused(Fault::TooShort | Fault::ErrorByte(_)) => 2,
+        Seen::Refused(Fault::BadHalf | Fault::SplitBit | Fault::TooLong) => 0,
     }
 }
 
@@ -188,13 +407,9 @@ fn preamble_before(preambles: &LastNumbers, frame: Option<Frame>) -> Option<u16>
     }
 }
 
-/// Returns the lesser of the numbers in two options, or `None` if there is no number.
-fn lesser_of(other: Option<u16>, number: Option<u16>) -> Option<u16>
-    ensures { result ≡ lesser_of other number }
+/// Returns the lesser of two numbers if `has_other` is true, otherwise `number`.
+fn lesser(has_other: bool, other: u16, number: u16) -> u16
+    ensures { result ≡ (if has_other then min other number else number) }
 {
-    match (other, number) {
-        (None, number) => number,
-        (other, None) => other,
-        (Some(other), Some(number)) => Some(other.min(number)),
-    }
+    if has_other { other.min(number) } else { number }
 }

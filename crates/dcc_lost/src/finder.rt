@@ -262,7 +262,7 @@ ghost use Rattle.dcc_lost.specs.Lost.{frame_at_end, longest_frame_at_end};
 /// A zero comes before each byte, so the half-bits at the places 0, 18 and 36 must have the nearest
 /// class Zero.
 #[inline(always)]
-fn has_start_bits(halves: &[u16]) -> bool
+pub(crate) fn has_start_bits(halves: &[u16]) -> bool
     ensures { IsTrue result ↔ HasStartBits halves.now }
 {
     halves.len() == 56
@@ -287,6 +287,7 @@ fn each_is(numbers: &[u16], number: u16) -> bool
 
 /// Returns the longest frame whose body is the end of `recent`, after at least 8 half-bits of ones.
 #[tactic(auto, unfolding(crate::specs::Lost::longest_frame_at_end))]
+#[inline(always)]
 pub(crate) fn longest_frame_at_end(recent: &LastNumbers) -> Option<Frame>
     ensures { result ≡ longest_frame_at_end (recent_numbers recent.now) }
 {

@@ -2,6 +2,7 @@
 
 ghost use Rattle.std.specs.Prelude.{◌≡◌, ◌≤◌};
 
+use dcc_timing::push_framer;
 use dcc_wire::{Fault, Framer, KeptFramer, Seen};
 
 /// A framer, and the numbers of half-bits that follow its last outcome.
@@ -112,42 +113,6 @@ impl Heard {
     {
         if self.refused { Some(self.since) } else { None }
     }
-}
-
-ghost use Rattle.std.specs.Prelude.{ℕ, List, ◌++◌, ◌∷◌, [], length};
-ghost use Rattle.dcc_wire.specs.Framing.{StandsFor, seen, report_at};
-ghost use Rattle.dcc_wire.specs.Kept.{kept_rest};
-
-/// Takes a half-bit of `us` microseconds, with the contract of `KeptFramer::push`. Only few
-/// half-bits end an outcome, and a separate function takes them.
-#[tactic(auto, unfolding(dcc_wire::specs::Framing::report_at))]
-#[inline(always)]
-pub(crate) fn push_framer(framer: &mut KeptFramer, us: u16) -> Seen
-    ensures history { (durations : List ℕ) × StandsFor (kept_rest framer.old) durations }
-    ensures stands { (durations : List ℕ) → StandsFor (kept_rest framer.old) durations
-        → StandsFor (kept_rest framer.new) (durations ++ us ∷ []) }
-    ensures sees { (durations : List ℕ) → StandsFor (kept_rest framer.old) durations
-        → seen (durations ++ us ∷ []) ≡ seen durations ++ report_at (length durations) result }
-{
-    if framer.pass(us) {
-        return Seen::Nothing;
-    }
-    push_apart(framer, us)
-}
-
-/// Takes a half-bit of `us` microseconds, with the contract of `KeptFramer::push`.
-#[inline(never)]
-fn push_apart(framer: &mut KeptFramer, us: u16) -> Seen
-    ensures history { (durations : List ℕ) × StandsFor (kept_rest framer.old) durations }
-    ensures stands { (durations : List ℕ) → StandsFor (kept_rest framer.old) durations
-        → StandsFor (kept_rest framer.new) (durations ++ us ∷ []) }
-    ensures sees { (durations : List ℕ) → StandsFor (kept_rest framer.old) durations
-        → seen (durations ++ us ∷ []) ≡ seen durations ++ report_at (length durations) result }
-{
-    let mut inner = framer.framer();
-    let seen = inner.push(us);
-    *framer = inner.keep();
-    seen
 }
 
 ghost use Rattle.dcc_lost.specs.Inner.{unused_next, since_next};

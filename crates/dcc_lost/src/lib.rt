@@ -20,6 +20,6 @@ mod rings;
 mod tests;
 
 pub use causes::{LostPacket, OffLimits, ShortPreamble};
-pub use figures::LostFigures;
+pub use figures::TrackFigures;
 pub use finder::{LostFinder, LostRun};
 pub use joined::{SpikeFinder, SpikedPacket};

@@ -1,6 +1,6 @@
 //! Tests of worked examples, of runs against their single half-bits, of long runs, and of figures.
 
-use crate::{LostFigures, LostFinder, LostPacket, OffLimits, ShortPreamble};
+use crate::{LostFinder, LostPacket, OffLimits, ShortPreamble, TrackFigures};
 use dcc_wire::Frame;
 use std::process::Abort;
 use std::test::Fail;
@@ -168,9 +168,9 @@ fn a_long_run_ends_soon(rt: HostRuntime) {
 
 /// Returns the figures of a list of runs.
 fn figures_of(runs: &[Run]) -> (u32, Option<u16>) {
-    let mut figures = LostFigures::new();
+    let mut figures = TrackFigures::new();
     for (us, n) in runs {
-        figures.push_run(*us, *n);
+        let _ = figures.try_push_run(*us, *n);
     }
     (figures.lost(), figures.shortest_preamble())
 }
@@ -187,10 +187,10 @@ fn preambles_are_counted_beyond_twenty(rt: HostRuntime) {
         (65536, 0, Some(65535)),
         (70000, 0, Some(65535)),
     ] {
-        let mut figures = LostFigures::new();
-        figures.push_run(58, n);
+        let mut figures = TrackFigures::new();
+        let _ = figures.try_push_run(58, n);
         for (us, n) in &SPEED_STEP_1 {
-            figures.push_run(*us, *n);
+            let _ = figures.try_push_run(*us, *n);
         }
         assert!(rt; figures.lost() == lost, "{n}");
         assert!(rt; figures.shortest_preamble() == shortest, "{n}");
@@ -199,11 +199,11 @@ fn preambles_are_counted_beyond_twenty(rt: HostRuntime) {
 
 #[test]
 fn an_end_bit_counts_for_the_next_preamble(rt: HostRuntime) {
-    let mut figures = LostFigures::new();
+    let mut figures = TrackFigures::new();
     for ones in [28, 30, 14, 26] {
-        figures.push_run(58, ones);
+        let _ = figures.try_push_run(58, ones);
         for (us, n) in &SPEED_STEP_1 {
-            figures.push_run(*us, *n);
+            let _ = figures.try_push_run(*us, *n);
         }
     }
     // the last two half-bits of the body are the end bit, so the third preamble has 16 half-bits
@@ -221,18 +221,18 @@ fn half_bits_without_a_packet_have_no_preamble(rt: HostRuntime) {
 fn figures_of_a_run_are_as_of_its_half_bits(rt: HostRuntime) {
     for us in [58, 100, 70, 5] {
         for n in [0, 1, 15, 19, 21, 66_500] {
-            let mut by_runs = LostFigures::new();
-            let mut one_by_one = LostFigures::new();
+            let mut by_runs = TrackFigures::new();
+            let mut one_by_one = TrackFigures::new();
             for (us, n) in &[(us, n), (100, 1), (58, 19)] {
-                by_runs.push_run(*us, *n);
+                let _ = by_runs.try_push_run(*us, *n);
                 for _ in 0..*n {
-                    one_by_one.push(*us);
+                    let _ = one_by_one.try_push_run(*us, 1);
                 }
             }
             for (us, n) in &SPEED_STEP_1 {
-                by_runs.push_run(*us, *n);
+                let _ = by_runs.try_push_run(*us, *n);
                 for _ in 0..*n {
-                    one_by_one.push(*us);
+                    let _ = one_by_one.try_push_run(*us, 1);
                 }
             }
             assert!(rt; by_runs.lost() == one_by_one.lost());
@@ -244,13 +244,13 @@ fn figures_of_a_run_are_as_of_its_half_bits(rt: HostRuntime) {
 #[test]
 fn figures_of_a_long_run_end_soon(rt: HostRuntime) {
     for us in [58, 100, 70, 5] {
-        let mut figures = LostFigures::new();
-        for _ in 0..2 {
-            figures.push_run(us, 4_000_000_000);
-        }
+        let mut figures = TrackFigures::new();
+        assert!(rt; figures.try_push_run(us, 4_000_000_000));
+        assert!(rt; !figures.try_push_run(us, 4_000_000_000));
         for (us, n) in &SPEED_STEP_1 {
-            figures.push_run(*us, *n);
+            assert!(rt; figures.try_push_run(*us, *n));
         }
+        assert!(rt; figures.timings().halves() == 4_000_000_056);
         let shortest = match us {
             58 | 70 => Some(65535),
             _ => None,

@@ -39,6 +39,8 @@ mod station_tests;
 #[cfg(test)]
 mod station_waiting_tests;
 #[cfg(test)]
+mod track_tests;
+#[cfg(test)]
 mod wire_noise_tests;
 #[cfg(test)]
 mod wire_recovery_tests;

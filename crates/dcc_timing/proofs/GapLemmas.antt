@@ -1,6 +1,7 @@
 -- How the steps of a list grow.
-use Rattle.std.proofs.Common.{◌≡◌, ℕ, ◌-◌, List, [], ◌∷◌, ◌++◌, Option, Some, None, refl, sym, ap, ◌∙◌, arith}
-use Rattle.std.proofs.Common.{append-nil}
+use Rattle.std.proofs.Common.{◌≡◌, ◌≢◌, ℕ, ◌+◌, ◌-◌, ◌<◌, ◌≤◌, min, max, List, [], ◌∷◌, ◌++◌, length, Option}
+use Rattle.std.proofs.Common.{Some, None, refl, sym, ap, ◌∙◌, arith, length-append}
+use Rattle.std.specs.Prelude.{unwrap_or}
 use Rattle.std.specs.List.{fold}
 use Rattle.std.proofs.lemmas.List.Sums.{fold_push}
 use Rattle.dcc_timing.specs.declared.gaps.Gaps.{Gaps}
@@ -32,25 +33,64 @@ pub last_push : (numbers : List ℕ) (number : ℕ) → last (numbers ++ number 
 unfolding last
 last_push numbers number = fold_push (λ (other : Option ℕ) next. Some next) None numbers number
 
-pub gaps_none : (gaps : Gaps) → gaps.end ≡ None → gaps.longest ≡ None → AreGaps gaps []
+-- a list that is not empty has a last number, and a longer list has a greatest step
+
+last_first : (first : ℕ) (numbers : List ℕ)
+    → fold (λ (other : Option ℕ) next. Some next) (Some first) numbers
+    ≡ Some (unwrap_or (fold (λ (other : Option ℕ) next. Some next) (Some first) numbers) 0)
+last_first first [] = refl
+last_first first (next ∷ numbers) = last_first next numbers
+
+last_some : (numbers : List ℕ) → 1 ≤ length numbers → last numbers ≡ Some (unwrap_or (last numbers) 0)
+unfolding last
+last_some [] some = absurd (omega (arith, some))
+last_some (first ∷ numbers) some = last_first first numbers
+
+pub longest_none : (gaps : Gaps) (ends : List ℕ) → AreGaps gaps ends → gaps.packets < 2 → None ≡ most (steps ends)
+unfolding most steps
+longest_none gaps [] are few = refl
+longest_none gaps (first ∷ []) are few = refl
+longest_none gaps (first ∷ next ∷ ends) are few = absurd (omega (arith, are.count, few))
+
+pub longest_some : (gaps : Gaps) (ends : List ℕ) → AreGaps gaps ends → 2 ≤ gaps.packets
+    → Some gaps.longest ≡ most (steps ends)
+unfolding most steps
+longest_some gaps [] are many = absurd (omega (arith, are.count, many))
+longest_some gaps (first ∷ []) are many = absurd (omega (arith, are.count, many))
+longest_some gaps (first ∷ next ∷ ends) are many = ap Some are.longest
+
+pub gaps_none : (gaps : Gaps) → gaps.packets ≡ 0 → gaps.end ≡ 0 → gaps.longest ≡ 0 → AreGaps gaps []
 unfolding last most steps
-gaps_none gaps end longest = record { end = end; longest = longest }
+gaps_none gaps count end longest = record { count = count; end = end; longest = longest }
 
-pub gaps_first : (old new : Gaps) (end : ℕ) → None ≡ old.end → new.end ≡ Some end → new.longest ≡ old.longest
-    → (ends : List ℕ) → AreGaps old ends → AreGaps new (ends ++ end ∷ [])
-gaps_first old new end none now same ends are = record {
-  end = now ∙ sym (last_push ends end);
-  longest = same ∙ are.longest
-      ∙ ap most (sym (steps_push ends end ∙ ap (λ l. steps ends ++ step_from l end) (sym are.end ∙ sym none)
-      ∙ append-nil (steps ends)));
-}
+-- one packet more
 
-pub gaps_more : (old new : Gaps) (before end : ℕ) → Some before ≡ old.end → new.end ≡ Some end
-    → new.longest ≡ Some (greater old.longest (end - before))
+greatest : (other : Option ℕ) (number : ℕ) → max (unwrap_or other 0) number ≡ unwrap_or (Some (greater other number)) 0
+greatest None number = omega arith
+greatest (Some other) number = refl
+
+-- the greatest step after one more packet
+longest_next : (old new : Gaps) (end : ℕ) (ends : List ℕ) → AreGaps old ends
+    → (old.packets ≡ 0 → new.longest ≡ old.longest)
+    → (old.packets ≢ 0 → new.longest ≡ max old.longest (end - old.end))
+    → new.longest ≡ unwrap_or (most (steps (ends ++ end ∷ []))) 0
+unfolding most steps
+longest_next old new end [] are first next = first are.count ∙ are.longest
+longest_next old new end (start ∷ ends) are first next =
+    let all : List ℕ = start ∷ ends in
+    let before : last all ≡ Some old.end =
+    last_some all (omega arith) ∙ ap Some (sym are.end) in
+    next (λ none. omega (arith, none, are.count)) ∙ ap (λ n. max n (end - old.end)) are.longest
+    ∙ greatest (most (steps all)) (end - old.end)
+    ∙ ap (λ l. unwrap_or l 0) (sym (most_more (steps all) (end - old.end) 1 (omega arith))
+    ∙ ap most (sym (steps_push all end ∙ ap (λ l. steps all ++ step_from l end) before)))
+
+pub gaps_more : (old new : Gaps) (end : ℕ) → new.packets ≡ min (old.packets + 1) 2 → new.end ≡ end
+    → (old.packets ≡ 0 → new.longest ≡ old.longest)
+    → (old.packets ≢ 0 → new.longest ≡ max old.longest (end - old.end))
     → (ends : List ℕ) → AreGaps old ends → AreGaps new (ends ++ end ∷ [])
-gaps_more old new before end some now more ends are = record {
-  end = now ∙ sym (last_push ends end);
-  longest = more ∙ ap (λ l. Some (greater l (end - before))) are.longest
-      ∙ sym (most_more (steps ends) (end - before) 1 (omega arith))
-      ∙ ap most (sym (steps_push ends end ∙ ap (λ l. steps ends ++ step_from l end) (sym are.end ∙ sym some)));
+gaps_more old new end count now first next ends are = record {
+  count = omega (arith, count, are.count, length-append ends (end ∷ []));
+  end = now ∙ ap (λ l. unwrap_or l 0) (sym (last_push ends end));
+  longest = longest_next old new end ends are first next;
 }

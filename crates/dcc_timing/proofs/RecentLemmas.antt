@@ -33,6 +33,12 @@ recent_more halves before after us k m so takes one =
     ∙ ap (λ l. keep_last 130 l) (append_assoc halves (replicate k us) (us ∷ [])
     ∙ ap (λ l. halves ++ l) (replicate_more k us ∙ ap (λ n. replicate n us) one))
 
+-- the last 130 numbers of a list with one number more
+pub half_behind : (halves : List ℕ) (us : ℕ) (last next : List ℕ) → last ≡ keep_last 130 halves
+    → next ≡ keep_last 130 (last ++ us ∷ []) → next ≡ keep_last 130 (halves ++ us ∷ [])
+half_behind halves us last next is e =
+    e ∙ ap (λ l. keep_last 130 (l ++ us ∷ [])) is ∙ keep_last_behind 130 halves (us ∷ [])
+
 -- a list that ends in so many of one number ends in those alone
 keep_last_run : (k n us : ℕ) (halves : List ℕ) → k ≤ n → keep_last k (halves ++ replicate n us) ≡ replicate k us
 keep_last_run k n us halves enough =

@@ -6,6 +6,7 @@ ghost use Rattle.dcc_timing.specs.Classes.{is_half_of_one, is_half_of_zero};
 use crate::tally::Tally;
 
 /// The statistics of the bits of the packets in a list of half-bits (NMRA S-9.1).
+#[repr(C)]
 #[derive(Clone, Copy, Debug, PartialEq, Eq)]
 pub struct Bits {
     /// The statistics of the differences between the two half-bits of each one, in microseconds.
@@ -32,6 +33,7 @@ impl Bits {
     }
 
     /// Adds the bits that the half-bits `halves` form, with two half-bits for each bit.
+    #[inline(never)]
     pub(crate) fn add(&mut self, halves: &[u16])
         requires { bits_count self.old + length halves.now < 2 ^ 40 }
         ensures bits { (bits : List (ℕ × ℕ)) → AreBits self.old bits → AreBits self.new (bits ++ pairs halves.now) }

@@ -4,6 +4,7 @@ use crate::tally::Tally;
 
 /// The statistics of the durations of half-bits, for each class in which a decoder puts them (NMRA
 /// S-9.1).
+#[repr(C)]
 #[derive(Clone, Copy, Debug, PartialEq, Eq)]
 pub struct Classes {
     /// The statistics of the half-bits that are shorter than half of a one: at most 51

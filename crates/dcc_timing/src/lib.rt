@@ -9,7 +9,6 @@
 mod bits;
 mod classes;
 mod gaps;
-mod numbers;
 mod outcomes;
 mod packets;
 mod recent;
@@ -21,4 +20,4 @@ pub use classes::Classes;
 pub use outcomes::Outcomes;
 pub use recent::LastNumbers;
 pub use tally::{Mean, Tally};
-pub use timings::Timings;
+pub use timings::{Timings, push_framer};

@@ -4,6 +4,7 @@ use dcc_wire::{Fault, Seen};
 
 /// The number of packets in a list of half-bits, and the number of refusals with each error (NMRA
 /// S-9.2).
+#[repr(C)]
 #[derive(Clone, Copy, Debug, PartialEq, Eq)]
 pub struct Outcomes {
     /// The number of packets.
@@ -43,6 +44,7 @@ impl Outcomes {
     }
 
     /// Counts the outcome of a half-bit. `Nothing` changes no count.
+    #[inline(always)]
     #[tactic(auto, unfolding(dcc_wire::specs::Framing::report_at))]
     pub(crate) fn add(&mut self, seen: &Seen)
         requires { outcomes_count self.old + 1 < 2 ^ 32 }

@@ -10,6 +10,7 @@ use dcc_wire::Seen;
 
 /// The statistics of the bits of the packets in a list of half-bits, and the longest time between
 /// packets.
+#[repr(C)]
 #[derive(Clone, Copy, Debug)]
 pub(crate) struct Packets {
     pub(crate) bits: Bits,
@@ -38,6 +39,7 @@ impl Packets {
 
     /// Adds an outcome that ends at the time `end`, in microseconds. The list `recent` ends with
     /// the last half-bit of this outcome.
+    #[inline(always)]
     pub(crate) fn add(&mut self, seen: &Seen, end: u64, recent: &LastNumbers)
         requires { bits_count self.old.bits + 130 < 2 ^ 40 }
         ensures bits { (bits : List (ℕ × ℕ)) → AreBits self.old.bits bits
@@ -59,6 +61,7 @@ impl Packets {
 
 /// Returns the number of half-bits of a packet that the statistics cover: the last ten ones of the
 /// preamble, and the body. Returns `None` if the outcome is no packet.
+#[inline(always)]
 fn bits_of(seen: &Seen) -> Option<usize>
     ensures bits { result ≡ bits_shown seen.now }
     ensures few { IfSome result (λ halves. halves ≤ 130) }

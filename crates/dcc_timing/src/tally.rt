@@ -2,15 +2,15 @@
 
 ghost use Rattle.std.specs.Prelude.{◌<◌, ◌≤◌, ◌*◌, ◌^◌};
 
-use crate::numbers::{greater, lesser};
-
-/// The count, the sum, the least number and the greatest number of a list of numbers.
+/// The count, the sum, the least number and the greatest number of a list of numbers. If the list is
+/// empty, all fields are 0.
+#[repr(C)]
 #[derive(Clone, Copy, Debug, PartialEq, Eq)]
 pub struct Tally {
     count: u64,
     sum: u64,
-    least: Option<u64>,
-    most: Option<u64>,
+    least: u64,
+    most: u64,
     ghost few: { count < 2 ^ 40 },
     ghost fits: { sum ≤ 131072 * count },
 }
@@ -37,8 +37,8 @@ impl Tally {
         Tally {
             count: 0,
             sum: 0,
-            least: None,
-            most: None,
+            least: 0,
+            most: 0,
         }
     }
 
@@ -52,10 +52,10 @@ impl Tally {
             → IsTally self.new (numbers ++ replicate n number) }
         ensures count { self.new.count ≡ self.old.count + n }
     {
+        self.least = lesser(self.count, self.least, number);
+        self.most = self.most.max(number);
         self.count += u64::from(n);
         self.sum += u64::from(n) * number;
-        self.least = Some(lesser(self.least, number));
-        self.most = Some(greater(self.most, number));
     }
 
     /// Returns how many numbers the list has.
@@ -69,14 +69,20 @@ impl Tally {
     pub fn least(&self) -> Option<u64>
         ensures { (numbers : List ℕ) → IsTally self.now numbers → result ≡ least numbers }
     {
-        self.least
+        if self.count == 0 {
+            return None;
+        }
+        Some(self.least)
     }
 
     /// Returns the greatest number of the list. Returns `None` if the list is empty.
     pub fn most(&self) -> Option<u64>
         ensures { (numbers : List ℕ) → IsTally self.now numbers → result ≡ most numbers }
     {
-        self.most
+        if self.count == 0 {
+            return None;
+        }
+        Some(self.most)
     }
 
     /// Returns the mean of the numbers. Returns `None` if the list is empty.
@@ -91,5 +97,21 @@ impl Tally {
             whole: self.sum / self.count,
             hundredths: 100 * (self.sum % self.count) / self.count,
         })
+    }
+}
+
+ghost use Rattle.std.specs.Prelude.{◌≡◌, ◌≢◌, min};
+
+/// Returns the least number of a list, to which `number` was appended. Before, the list had `count`
+/// numbers, and `least` was the least number. If the list was empty, `least` does not matter.
+#[inline(always)]
+fn lesser(count: u64, least: u64, number: u64) -> u64
+    ensures first { count ≡ 0 → result ≡ number }
+    ensures next { count ≢ 0 → result ≡ min least number }
+{
+    if count == 0 || number < least {
+        number
+    } else {
+        least
     }
 }

@@ -2,6 +2,7 @@
 //! half-bits.
 
 ghost use Rattle.std.specs.Prelude.{◌≤◌, ◌*◌, ℕ, List};
+ghost use Rattle.dcc_wire.specs.Kept.{kept_rest};
 ghost use Rattle.dcc_timing.specs.Inner.Counts.{classes_count, outcomes_count, bits_count};
 ghost use Rattle.dcc_timing.specs.Measured.{AreMeasured};
 ghost use Rattle.dcc_timing.specs.Recent.{recent_numbers};
@@ -11,14 +12,16 @@ use crate::classes::Classes;
 use crate::outcomes::Outcomes;
 use crate::packets::Packets;
 use crate::recent::LastNumbers;
-use dcc_wire::Framer;
+use dcc_wire::{Framer, KeptFramer, RunSeen, Seen};
 
 /// The statistics of a list of half-bits, which show how near a track is to the limits of NMRA
 /// S-9.1.
 ///
-/// The list grows by runs of equal half-bits, and each statistic covers the whole list so far.
+/// The list grows by half-bits and by runs of equal half-bits, and each statistic covers the whole
+/// list so far.
 ///
 /// Invariant: a list of half-bits has these statistics.
+#[repr(C)]
 #[derive(Drop)]
 pub struct Timings {
     halves: u32,
@@ -26,19 +29,21 @@ pub struct Timings {
     classes: Classes,
     outcomes: Outcomes,
     packets: Packets,
-    framer: Framer,
+    framer: KeptFramer,
     recent: LastNumbers,
     ghost time_fits: { time ≤ 65535 * halves },
     ghost classes_fit: { classes_count classes ≤ halves },
     ghost outcomes_fit: { outcomes_count outcomes ≤ halves },
     ghost bits_fit: { bits_count packets.bits ≤ 130 * halves },
     ghost history: { ∥ ((list : List ℕ)
-        × AreMeasured halves time classes outcomes packets framer (recent_numbers recent) list) ∥₁ },
+        × AreMeasured halves time classes outcomes packets (kept_rest framer) (recent_numbers recent) list) ∥₁ },
 }
 
 impl Timings {
     ghost use Rattle.std.specs.Prelude.{◌≡◌, ◌<◌, ◌+◌, ◌^◌, ℕ, List, [], ◌++◌, length, replicate, sum};
-    ghost use Rattle.dcc_wire.specs.Framing.{seen};
+    ghost use Rattle.std.specs.Prelude.{◌∷◌};
+    ghost use Rattle.dcc_wire.specs.Framing.{is_hunting, report_at, rest, seen};
+    ghost use Rattle.dcc_timing.specs.Numbers.{keep_last};
     ghost use Rattle.dcc_timing.specs.Classes.{AreClasses};
     ghost use Rattle.dcc_timing.specs.Outcomes.{AreOutcomes};
     ghost use Rattle.dcc_timing.specs.PacketBits.{AreBits, packet_bits_in};
@@ -55,9 +60,34 @@ impl Timings {
             classes: Classes::new(),
             outcomes: Outcomes::new(),
             packets: Packets::new(),
-            framer: Framer::new(),
+            framer: Framer::new().keep(),
             recent: LastNumbers::new(),
         }
+    }
+
+    /// Appends a half-bit of `us` microseconds to the list. Returns the outcome that ends with this
+    /// half-bit. The longer list must have fewer than 2^32 half-bits.
+    #[inline(always)]
+    pub fn push(&mut self, us: u16) -> Seen
+        requires { self.old.halves + 1 < 2 ^ 32 }
+        // Some list has the old statistics.
+        ensures history { ∥ ((halves : List ℕ) × Measures self.old halves) ∥₁ }
+        // If a list has the old statistics, the list with this half-bit at its end has the new
+        // statistics.
+        ensures measures { (halves : List ℕ) → Measures self.old halves → Measures self.new (halves ++ us ∷ []) }
+        // The result is the outcome of the last half-bit of the longer list.
+        ensures sees { (halves : List ℕ) → Measures self.old halves
+            → seen (halves ++ us ∷ []) ≡ seen halves ++ report_at (length halves) result }
+        ensures count { self.new.halves ≡ self.old.halves + 1 }
+    {
+        let seen = push_framer(&mut self.framer, us);
+        self.recent.push(us);
+        self.halves += 1;
+        self.time += u64::from(us);
+        self.classes.add(us, 1);
+        self.outcomes.add(&seen);
+        self.packets.add(&seen, self.time, &self.recent);
+        seen
     }
 
     /// Appends `n` half-bits of `us` microseconds to the list. The longer list must have fewer than
@@ -65,7 +95,6 @@ impl Timings {
     ///
     /// The time of a call does not depend on `n`. The function takes at most as many half-bits one
     /// by one as the longest packet has.
-    #[inline(always)]
     pub fn take(&mut self, us: u16, n: u32)
         requires { self.old.halves + n < 2 ^ 32 }
         // Some list has the old statistics.
@@ -73,11 +102,12 @@ impl Timings {
         // If a list has the old statistics, the list with these half-bits at its end has the new
         // statistics.
         ensures measures { (halves : List ℕ) → Measures self.old halves → Measures self.new (halves ++ replicate n us) }
+        ensures count { self.new.halves ≡ self.old.halves + n }
     {
         if n == 0 {
             return;
         }
-        let shown = self.framer.push_run(us, n);
+        let shown = push_run(&mut self.framer, us, n);
         self.halves += n;
         self.classes.add(us, n);
         self.outcomes.add(&shown.seen);
@@ -90,7 +120,8 @@ impl Timings {
 
     /// Returns the number of half-bits in the list.
     pub fn halves(&self) -> u32
-        ensures { (halves : List ℕ) → Measures self.now halves → result ≡ length halves }
+        ensures value { result ≡ self.now.halves }
+        ensures length { (halves : List ℕ) → Measures self.now halves → result ≡ length halves }
     {
         self.halves
     }
@@ -130,6 +161,75 @@ impl Timings {
     pub fn longest_gap(&self) -> Option<u64>
         ensures { (halves : List ℕ) → Measures self.now halves → result ≡ longest_gap halves }
     {
-        self.packets.gaps.longest
+        self.packets.gaps.longest()
     }
+
+    /// Returns true if no body is unfinished at the end of the list: a packet can begin there only
+    /// with its preamble.
+    #[inline(always)]
+    pub fn is_hunting(&self) -> bool
+        ensures { (halves : List ℕ) → Measures self.now halves → result ≡ is_hunting (rest halves) }
+    {
+        self.framer.is_hunting()
+    }
+
+    /// Returns the last 130 half-bits of the list.
+    #[inline(always)]
+    pub fn recent(&self) -> &LastNumbers
+        ensures { (halves : List ℕ) → Measures self.now halves → recent_numbers result.now ≡ keep_last 130 halves }
+    {
+        &self.recent
+    }
+}
+
+ghost use Rattle.std.specs.Prelude.{◌≡◌, ◌≢◌, ◌+◌, ◌-◌, [], ◌∷◌, ◌++◌, length, replicate};
+ghost use Rattle.dcc_wire.specs.Framing.{StandsFor, seen, report_at};
+
+/// Takes a half-bit of `us` microseconds, with the contract of `KeptFramer::push`. Only few
+/// half-bits end an outcome, and a separate function takes them.
+#[tactic(auto, unfolding(dcc_wire::specs::Framing::report_at))]
+#[inline(always)]
+pub fn push_framer(framer: &mut KeptFramer, us: u16) -> Seen
+    ensures history { (durations : List ℕ) × StandsFor (kept_rest framer.old) durations }
+    ensures stands { (durations : List ℕ) → StandsFor (kept_rest framer.old) durations
+        → StandsFor (kept_rest framer.new) (durations ++ us ∷ []) }
+    ensures sees { (durations : List ℕ) → StandsFor (kept_rest framer.old) durations
+        → seen (durations ++ us ∷ []) ≡ seen durations ++ report_at (length durations) result }
+{
+    if framer.pass(us) {
+        return Seen::Nothing;
+    }
+    push_apart(framer, us)
+}
+
+/// Takes a half-bit of `us` microseconds, with the contract of `KeptFramer::push`.
+#[inline(never)]
+fn push_apart(framer: &mut KeptFramer, us: u16) -> Seen
+    ensures history { (durations : List ℕ) × StandsFor (kept_rest framer.old) durations }
+    ensures stands { (durations : List ℕ) → StandsFor (kept_rest framer.old) durations
+        → StandsFor (kept_rest framer.new) (durations ++ us ∷ []) }
+    ensures sees { (durations : List ℕ) → StandsFor (kept_rest framer.old) durations
+        → seen (durations ++ us ∷ []) ≡ seen durations ++ report_at (length durations) result }
+{
+    let mut inner = framer.framer();
+    let seen = inner.push(us);
+    *framer = inner.keep();
+    seen
+}
+
+/// Takes `n` half-bits of `us` microseconds, with the contract of `Framer::push_run`.
+fn push_run(framer: &mut KeptFramer, us: u16, n: u32) -> RunSeen
+    ensures history { (durations : List ℕ) × StandsFor (kept_rest framer.old) durations }
+    ensures stands { (durations : List ℕ) → StandsFor (kept_rest framer.old) durations
+        → StandsFor (kept_rest framer.new) (durations ++ replicate n us) }
+    ensures sees { (durations : List ℕ) → StandsFor (kept_rest framer.old) durations
+        → seen (durations ++ replicate n us) ≡ seen durations
+        ++ report_at (length durations + result.at - 1) result.seen }
+    ensures nothing { result.seen ≡ Seen.Nothing → result.at ≡ n }
+    ensures something { result.seen ≢ Seen.Nothing → (1 ≤ result.at) × (result.at ≤ n) }
+{
+    let mut inner = framer.framer();
+    let shown = inner.push_run(us, n);
+    *framer = inner.keep();
+    shown
 }

@@ -2,8 +2,8 @@
 use Rattle.std.proofs.Common.{◌≡◌, ℕ, ◌*◌, List, nat_lt, length, Option, None, Some, Ok, Err, refl, sym}
 use Rattle.std.proofs.Common.{subst, IfSome}
 use Rattle.std.specs.List.{filter}
-use Rattle.dcc_timing.specs.declared.timings.Timings.{Timings}
-use Rattle.dcc_timing.specs.Measures.{Measures}
+use Rattle.dcc_lost.specs.declared.figures.TrackFigures.{TrackFigures}
+use Rattle.dcc_lost.specs.MeasuresTrack.{MeasuresTrack}
 use Rattle.dcc_timing.specs.Classes.{is_above}
 use Rattle.dcc_io.specs.declared.fault.KeptFault.{KeptFault}
 use Rattle.dcc_io.specs.declared.fault.KeptFault.TheVariants.{Line, Number, TooMuch}
@@ -30,10 +30,10 @@ halves_in bytes = (capture_in (input_of_bytes bytes) (closed bytes)).said
 abbrev fault_in : List ℕ → Option KeptFault
 fault_in bytes = (capture_in (input_of_bytes bytes) (closed bytes)).fault
 
-pub capture_measured : (bytes : List ℕ) (old new : InputState) (timings : Timings) → old ≡ input_of_bytes bytes
-    → MeasuresCapture old (Ok timings) new → (fault_in bytes ≡ None) × Measures timings (halves_in bytes)
-capture_measured bytes old new timings is reads =
-    let all = subst (λ (state : InputState). MeasuresCapture state (Ok timings) new) is reads in
+pub capture_measured : (bytes : List ℕ) (old new : InputState) (figures : TrackFigures) → old ≡ input_of_bytes bytes
+    → MeasuresCapture old (Ok figures) new → (fault_in bytes ≡ None) × MeasuresTrack figures (halves_in bytes)
+capture_measured bytes old new figures is reads =
+    let all = subst (λ (state : InputState). MeasuresCapture state (Ok figures) new) is reads in
     (all.items.0.0, all.items.0.1.0)
 
 pub kind_of_capture : (bytes : List ℕ) (halves above : ℕ) → fault_in bytes ≡ None → halves ≡ length (halves_in bytes)

@@ -94,7 +94,8 @@ fn capture_kind(bytes: &[u8]) -> Kind
 {
     let mut input = input_of(bytes);
     match measure(&mut input) {
-        Ok(timings) => {
+        Ok(figures) => {
+            let timings = figures.timings();
             let halves = timings.halves();
             let above = timings.classes().above.count();
             Kind::Capture {

@@ -6,9 +6,10 @@ use Rattle.dcc_listen.proofs.timing_text.timing_text.Goals as goal
 
 pub returns : goal.returns
 unfolding timing_text
-returns c = λ halves are lost_are.
+returns c = λ halves track.
+    let are = c.timings-timings.ensures halves track in
     let exact : c.lost.result ≡ lost_count halves =
-    omega (arith, c.lost.ensures halves lost_are, lost_are.few, c.halves.ensures halves are, c.halves.type_inv) in
+    omega (arith, c.lost.ensures halves track, track.lost.few, c.halves.ensures.length halves are, c.halves.type_inv) in
     let all : c.add_others.new.text.items ≡ c.new-text.result.items ++ timing_text halves =
     joined _ _ _ _ _
     (joined _ _ _ _ _
@@ -16,11 +17,11 @@ returns c = λ halves are lost_are.
     (joined _ _ _ _ _
     (joined _ _ _ _ _
     (joined _ _ _ _ _
-    (joined _ _ _ _ _ (rw (c.from.ensures, c.halves.ensures halves are) at c.add_figure.ensures.items)
+    (joined _ _ _ _ _ (rw (c.from.ensures, c.halves.ensures.length halves are) at c.add_figure.ensures.items)
     (rw (c.time.ensures halves are) at c.add_figure-2.ensures.items))
     (c.add_outcomes.ensures.items _ (c.outcomes.ensures halves are)))
     (rw (c.from-2.ensures, exact) at c.add_figure-3.ensures.items))
-    (rw (c.as_number.ensures, c.shortest_preamble.ensures halves lost_are) at c.add_figure-4.ensures.items))
+    (rw (c.as_number.ensures, c.shortest_preamble.ensures halves track) at c.add_figure-4.ensures.items))
     (rw (c.longest_gap.ensures halves are) at c.add_figure-5.ensures.items))
     (c.add_bits.ensures.items _ _ (c.classes.ensures halves are) (c.bits.ensures halves are)))
     (c.add_others.ensures halves (c.classes-2.ensures halves are)) in

@@ -1,8 +1,8 @@
-use Rattle.std.proofs.Common.{Some, ap, rules}
+use Rattle.std.proofs.Common.{rules}
 use Rattle.dcc_timing.proofs.TallyLemmas.{tally_more}
 use Rattle.dcc_timing.proofs.tally.Tally.add.Goals as goal
 
 pub returns-clause-tally : goal.returns-clause-tally
 returns-clause-tally c =
     tally_more c.args.self.now _ c.args.number c.args.n c.requires.some (search rules) (search rules)
-    (ap Some c.lesser.ensures) (ap Some c.greater.ensures)
+    c.lesser-self.ensures.first c.lesser-self.ensures.next c.max-self.ensures

@@ -2,6 +2,7 @@ use Rattle.std.proofs.Common.{◌+◌, ◌-◌, ◌*◌, ◌++◌, List, ℕ, ap
 use Rattle.std.proofs.Math.Logic.{∥∥₁_map}
 use Rattle.dcc_wire.specs.declared.seen.Seen.{Seen}
 use Rattle.dcc_wire.specs.Framing.{seen}
+use Rattle.dcc_wire.specs.Kept.{kept_rest}
 use Rattle.dcc_timing.specs.Numbers.{keep_last}
 use Rattle.dcc_timing.specs.Outcomes.{AreOutcomes}
 use Rattle.dcc_timing.specs.PacketBits.{AreBits, packet_bits_in}
@@ -17,7 +18,7 @@ use Rattle.dcc_timing.proofs.timings.Timings.take.Goals as goal
 -- the list with these half-bits at its end is measured, for each list that was
 measured : (c : After-from-4) (halves : List ℕ) → Measures c.args.self.now halves
     → AreMeasured (c.args.self.now.halves + c.args.n) (c.args.self.now.time + c.from-3.result * c.from-4.result)
-    c.add.new.self c.add-2.new.self c.add-3.new.self c.push_run-shown.new.self
+    c.add.new.self c.add-2.new.self c.add-3.new.self (kept_rest c.push_run-shown.new.framer)
     (recent_numbers c.take-2.new.self)
     (halves ++ replicate c.args.n c.args.us)
 measured c halves are =
