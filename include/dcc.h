@@ -190,8 +190,8 @@ typedef struct {
     uint64_t gap;  /* the longest time from the end of a packet to the end of the next, or 0 without has_gap */
     dcc_tally below, ones, between, zeros, above; /* half-bits of at most 51, of 52 to 64, of 65 to 89, of 90 to 10000,
                                                      and of at least 10001 */
-    dcc_tally differences; /* for each one of a packet, the difference between its two half-bits */
-    dcc_tally sums;        /* for each zero of a packet, its duration */
+    dcc_tally differences; /* of each bit 1 of a packet, the difference between its two half-bits */
+    dcc_tally sums;        /* of each bit 0 of a packet, its duration */
     uint32_t packets;      /* the number of packets */
     uint32_t refused[5];   /* the number of refusals, H1 to H5 */
     uint32_t halves;       /* the number of half-bits */

@@ -392,8 +392,8 @@ class Tally:
 class Statistics:
     """The statistics of half-bits, as `dcc timing` writes them (docs/FORMATS.md). All durations are in microseconds.
 
-    The tallies below, ones, between, zeros and above are of half-bits by their class. The tally differences is of the
-    differences between the two half-bits of each one of a packet, and sums of the durations of each zero of a packet.
+    The tallies below, ones, between, zeros and above are of half-bits by their class. The tally differences has
+    the difference between the two half-bits of each bit 1 of a packet, and sums has the duration of each bit 0.
     The refusals have the keys H1 to H5. The preamble is the shortest preamble of a packet that was found or lost, in
     half-bits and at most 65535, and gap is the longest time from the end of a packet to the end of the next. Each of
     them is None if there is none."""

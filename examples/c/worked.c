@@ -219,15 +219,12 @@ static void a_meter_of_zeros_is_a_new_one(void) {
 
 static void a_meter_computes_statistics(void) {
     static dcc_meter meter;
-    static dcc_statistics none, zeros;
     dcc_statistics s;
     memset(&s, 7, sizeof s);
     dcc_meter_read(&meter, &s);
     HOLDS(s.halves == 0 && s.time == 0 && s.packets == 0 && s.lost == 0);
     HOLDS(!s.has_gap && s.gap == 0 && !s.has_preamble && s.preamble == 0);
     HOLDS(is_tally(&s.below, 0, 0, 0, 0) && is_tally(&s.ones, 0, 0, 0, 0) && is_tally(&s.above, 0, 0, 0, 0));
-    dcc_meter_read(&meter, &none);
-    HOLDS(none.time == zeros.time && none.sums.most == zeros.sums.most);
     /* two packets: 28 half-bits of ones and 56 half-bits, then 30 half-bits of ones and the same 56 */
     uint16_t halves[DCC_HALVES];
     HOLDS(dcc_halves(speed, 3, 14, halves) == 84);

@@ -64,9 +64,9 @@ pub struct Statistics {
     pub zeros: Tally,
     /// The half-bits of at least 10001 microseconds.
     pub above: Tally,
-    /// For each one of a packet, the difference between its two half-bits.
+    /// Of each bit 1 of a packet, the difference between its two half-bits.
     pub differences: Tally,
-    /// For each zero of a packet, its duration.
+    /// Of each bit 0 of a packet, its duration.
     pub sums: Tally,
 }
 
