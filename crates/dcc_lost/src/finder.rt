@@ -107,31 +107,6 @@ impl LostFinder {
         self.can_be_lost(us, &seen)
     }
 
-    /// Takes a half-bit of `us` microseconds. Returns the outcome that ends with this half-bit, and
-    /// the frame of the packet that is lost at this half-bit, or `None`.
-    #[inline(always)]
-    pub(crate) fn push_framed(&mut self, us: u16) -> (Seen, Option<Frame>)
-        ensures reads { (durations : List ℕ) → Follows self.old durations
-            → Follows self.new (durations ++ us ∷ []) }
-        ensures sees { (durations : List ℕ) → Follows self.old durations
-            → seen (durations ++ us ∷ []) ≡ seen durations ++ report_at (length durations) result.0 }
-        ensures lost { (durations : List ℕ) → Follows self.old durations → result.1 ≡ frame_lost durations us }
-    {
-        let seen = self.hear(us);
-        if !self.can_be_lost(us, &seen) {
-            return (seen, None);
-        }
-        (seen, longest_frame_at_end(&self.recent))
-    }
-
-    /// Returns the number of half-bits at the end that no outcome uses, at most 20.
-    pub(crate) fn unused(&self) -> u8
-        ensures unused { (durations : List ℕ) → Follows self.now durations → result ≡ unused_at_end durations }
-        ensures few { result ≤ 20 }
-    {
-        self.heard.unused()
-    }
-
     /// Takes a half-bit of `us` microseconds. Returns the outcome that ends with this half-bit.
     #[inline(always)]
     fn hear(&mut self, us: u16) -> Seen
