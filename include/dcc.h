@@ -1,7 +1,7 @@
 /* SPDX-License-Identifier: MIT OR Apache-2.0
  *
  * Digital Command Control (DCC) for C and C++. The library finds packets and lost packets in half-bits, computes the
- * statistics of a track, reads and sends packets, simulates decoders, reads CVs, and runs a command station.
+ * statistics of a track, reads and sends packets, simulates decoders, reads and writes CVs, and runs a command station.
  *
  * Each function reads and writes only its arguments, allocates nothing, has no state of its own, and returns. The
  * library is proved (docs/C.md). The code that calls the library is not proved. The caller must obey these rules,
@@ -13,9 +13,13 @@
  *   all bytes are zero, a dcc_framer, a dcc_lost and a dcc_meter are new, a dcc_sender has no half-bit left, and a
  *   dcc_station accepts no command.
  * - A dcc_lost is all zeros before its first dcc_lost_new, a dcc_meter before its first dcc_meter_new, a dcc_sender
- *   before its first dcc_sender_start, and a dcc_station before its first dcc_station_new.
+ *   before its first dcc_sender_start, and a dcc_station before its first dcc_station_new. A dcc_decoder and a
+ *   dcc_board_decoder are all zeros before their first call.
+ * - The fields of a dcc_decoder and a dcc_board_decoder may be read. Of these fields, only the bytes of cvs may be
+ *   written. A program may pass the dcc_loco or the dcc_board in them to the functions that change nothing.
  * - The fields of all other objects may be read and changed. A function returns 13 if the fields that it reads are
- *   impossible for a decoder or a reading. The fields of a dcc_timing may have any values. A bool is 0 or 1.
+ *   impossible for a decoder, a reading or a writing. The fields of a dcc_timing and of a dcc_service_packet may have
+ *   any values. A bool is 0 or 1.
  * - Pointers are not null, are aligned, and point to as many items as the function says. A pointer is not null even
  *   if a length is 0.
  * - The objects and arrays of one call do not overlap.
@@ -447,6 +451,111 @@ uint8_t dcc_small_service_cv(const dcc_small_service *service, const uint8_t *fr
 uint8_t dcc_small_service_apply(dcc_small_service *service, const uint8_t *frame, uint64_t len, uint8_t *value,
     bool *changed, bool *acknowledged);
 
+/* ---- decoders on the main track and on the programming track (NMRA S-9.2.3) ---- */
+
+/* A decoder hears the frames of both tracks, and changes between the tracks as the frames say (docs/FORMATS.md has the
+ * packets):
+ *
+ * - The decoder hears the reset 00 00 00, so a running locomotive stops. The reset also enters service mode.
+ * - In service mode, service packets reach only the CVs of the decoder.
+ * - Each other frame ends service mode. If a service packet changed a CV since service mode began, the decoder first
+ *   powers up with its CVs, and so has its new address. The decoder then hears the frame as on the main track.
+ *
+ * On the main track, frames for the short addresses 112 to 127 look like service packets. After a reset, two copies of
+ * 7c 3f 85 c6, a speed packet for address 124, would write CV64 of each decoder that can enter service mode. So a
+ * program that knows that its decoder is on the main track calls the _set_main_only function.
+ *
+ * A program ends service mode with the _end_service function if no packet of service mode comes for 20 milliseconds.
+ *
+ * Before its first call, a decoder must be all zeros, as in `static dcc_decoder decoder;`. The fields of a decoder may
+ * be read. Of these fields, only the bytes of cvs may be written. */
+
+/* The answer of a decoder to a frame. */
+typedef struct {
+    uint16_t changed;  /* the number of the CV whose value changed, on either track, or 0 if no CV changed. A program
+                          can store the new value, for example in EEPROM */
+    bool acknowledged; /* true if the decoder acknowledges the frame: the program then draws the current of the
+                          acknowledgement for 6 milliseconds */
+    DCC_FREE_BYTE
+} dcc_answer;
+
+/* A locomotive decoder on both tracks. If all bytes are zero, the decoder has no address, and its CVs are 0. */
+typedef struct {
+    dcc_loco loco;             /* the decoder with its registers and CVs */
+    dcc_small_service service; /* service.in_service is true if the decoder is in service mode */
+    bool changed;              /* true if a service packet changed a CV since service mode began */
+    bool main_only;            /* true if the decoder stays on the main track */
+    DCC_FREE_BYTE DCC_FREE_BYTE DCC_FREE_BYTE DCC_FREE_BYTE DCC_FREE_BYTE DCC_FREE_BYTE
+} dcc_decoder;
+
+/* Creates a locomotive decoder that is powered up with the given CVs, is not in service mode and can hear both tracks.
+ * The function copies the CVs. */
+void dcc_decoder_new(dcc_decoder *decoder, const uint8_t cvs[DCC_CVS]);
+
+/* Powers a locomotive decoder up with the CVs in decoder->loco.cvs, as dcc_decoder_new does, and leaves these CVs
+ * unchanged. So a program can write stored CVs to decoder->loco.cvs and needs no second array. */
+void dcc_decoder_power_up(dcc_decoder *decoder);
+
+/* Hears a frame of either track, and writes the answer of the decoder. */
+uint8_t dcc_decoder_hear(dcc_decoder *decoder, const uint8_t *frame, uint64_t len, dcc_answer *answer);
+
+/* Ends service mode. If a service packet changed a CV since service mode began, the decoder powers up with its CVs. */
+void dcc_decoder_end_service(dcc_decoder *decoder);
+
+/* Keeps the decoder on the main track if main_only is true: then no frame enters service mode, and the decoder
+ * acknowledges no frame. If the decoder is in service mode, service mode ends first, as dcc_decoder_end_service ends
+ * it. If main_only is false, the decoder can hear both tracks. */
+void dcc_decoder_set_main_only(dcc_decoder *decoder, bool main_only);
+
+/* An accessory decoder on both tracks. The lower six bits of its address are in CV1, and the upper three bits in CV9. A
+ * decoder with the address 511 hears only the packets for all accessory decoders. No packet of the main track changes a
+ * CV. If all bytes are zero, the decoder has the address 0, its outputs are off, and its CVs are 0. */
+typedef struct {
+    dcc_board board;           /* the decoder with its address, 0 to 511, outputs, positions and aspects */
+    uint8_t cvs[DCC_CVS];      /* CV1 is cvs[0] */
+    dcc_small_service service; /* service.in_service is true if the decoder is in service mode */
+    bool changed;              /* true if a service packet changed a CV since service mode began */
+    bool main_only;            /* true if the decoder stays on the main track */
+} dcc_board_decoder;
+
+/* Creates an accessory decoder that is powered up with the given CVs, with all outputs off, all positions false and all
+ * aspects 0. The decoder is not in service mode and can hear both tracks. The function copies the CVs. */
+void dcc_board_decoder_new(dcc_board_decoder *decoder, const uint8_t cvs[DCC_CVS]);
+
+/* Powers an accessory decoder up with the CVs in decoder->cvs, and leaves the CVs, the positions and the aspects
+ * unchanged: the outputs are off. The decoder is not in service mode and can hear both tracks. So a program can write
+ * stored CVs to decoder->cvs and needs no second array. */
+void dcc_board_decoder_power_up(dcc_board_decoder *decoder);
+
+/* Hears a frame of either track, and writes the answer of the decoder. */
+uint8_t dcc_board_decoder_hear(dcc_board_decoder *decoder, const uint8_t *frame, uint64_t len, dcc_answer *answer);
+
+/* Ends service mode, as dcc_decoder_end_service does. */
+void dcc_board_decoder_end_service(dcc_board_decoder *decoder);
+
+/* Keeps the decoder on the main track if main_only is true, as dcc_decoder_set_main_only does. */
+void dcc_board_decoder_set_main_only(dcc_board_decoder *decoder, bool main_only);
+
+/* ---- service packets (NMRA S-9.2.3, direct mode) ---- */
+
+/* The content of a service packet, which writes or verifies a CV or a bit of a CV on the programming track. */
+typedef struct {
+    uint16_t cv;   /* the number of the CV, 1 to 1024, else P6 */
+    uint8_t kind;  /* DCC_CV_WRITE, DCC_CV_VERIFY, DCC_CV_BIT_WRITE or DCC_CV_BIT_VERIFY, else P10 */
+    uint8_t value; /* CV_WRITE, CV_VERIFY: the byte, otherwise 0 */
+    uint8_t place; /* CV_BIT_..: the place of the bit, 0 for the lowest bit, at most 7, else P7 */
+    bool one;      /* CV_BIT_..: the value of the bit, otherwise false */
+} dcc_service_packet;
+
+/* Writes the frame of a service packet. If the fields have an error, returns the number of the first error and writes
+ * nothing. The order of the errors is 10 (P10), 6 (P6) and 7 (P7). The function ignores the fields that the kind does
+ * not use. */
+uint8_t dcc_service_frame(const dcc_service_packet *packet, dcc_frame *frame);
+
+/* Writes the fields of the service packet of a frame. Fields that the kind of the packet does not use are 0. Returns 10
+ * (P10) and writes nothing if no service packet has this frame. */
+uint8_t dcc_service_read(const uint8_t *frame, uint64_t len, dcc_service_packet *packet);
+
 /* ---- reading a CV ---- */
 
 /* The reading of a CV by nine questions. The first eight questions ask if bit 0, 1, .. 7 of the CV is one. The ninth
@@ -479,6 +588,38 @@ enum { DCC_MORE, DCC_VALUE, DCC_NO_ANSWER }; /* the state of a reading after an 
  * The function changes the reading only if it returns DCC_MORE. After the ninth answer dcc_reader_question writes the
  * ninth question again. */
 uint8_t dcc_reader_answer(dcc_reader *reader, bool yes, uint8_t *value);
+
+/* ---- writing a CV ---- */
+
+/* The writing of a CV by two questions. The first question writes the byte to the CV. The second question asks if the
+ * CV has this byte. */
+typedef struct {
+    uint16_t cv;       /* the number of the CV, 1 to 1024 */
+    uint8_t value;     /* the byte */
+    bool is_verifying; /* true if the first question has its answer, so that the second question is next */
+} dcc_writer;
+
+/* Begins to write a byte to a CV. Returns 6 (P6) and writes nothing if the CV is not 1 to 1024. */
+uint8_t dcc_writer_new(dcc_writer *writer, uint16_t cv, uint8_t value);
+
+/* Writes the frame of the next question, which a station asks as the comment on dcc_reader_question says. Returns 13
+ * and writes nothing if the fields are not those of a writing. */
+uint8_t dcc_writer_question(const dcc_writer *writer, dcc_frame *question);
+
+enum { DCC_DONE = 1, DCC_FAILED }; /* with DCC_MORE: the state of a writing after an answer */
+
+/* Takes the answer to the question of dcc_writer_question. The parameter yes is true if the decoder acknowledged the
+ * question.
+ *
+ * - Returns DCC_MORE after the first question, whatever the answer is. A decoder that writes the CV can fail to
+ *   acknowledge it, so the second question decides.
+ * - Returns DCC_DONE if the second question was acknowledged, so the CV has the byte.
+ * - Returns DCC_FAILED if the second question was not acknowledged. A decoder never writes CV7 and CV8.
+ * - Returns 13 if the fields are not those of a writing.
+ *
+ * The function changes the writing only if it returns DCC_MORE. After the second answer dcc_writer_question writes the
+ * second question again. */
+uint8_t dcc_writer_answer(dcc_writer *writer, bool yes);
 
 /* ---- a command station ---- */
 
@@ -540,7 +681,12 @@ DCC_ASSERT(sizeof(dcc_board) == 12);
 DCC_ASSERT(sizeof(dcc_service) == 1032);
 DCC_ASSERT(sizeof(dcc_small_loco) == 56);
 DCC_ASSERT(sizeof(dcc_small_service) == 8);
+DCC_ASSERT(sizeof(dcc_answer) == 4);
+DCC_ASSERT(sizeof(dcc_decoder) == 1088);
+DCC_ASSERT(sizeof(dcc_board_decoder) == 1046);
+DCC_ASSERT(sizeof(dcc_service_packet) == 6);
 DCC_ASSERT(sizeof(dcc_reader) == 4);
+DCC_ASSERT(sizeof(dcc_writer) == 4);
 DCC_ASSERT(sizeof(dcc_station) == 1800);
 
 #ifdef __cplusplus

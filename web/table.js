@@ -1,4 +1,5 @@
-// The table of packets and refusals: a page of its rows, and the state of a decoder at the chosen row.
+// The table of packets and refusals: a page of its rows. Below the chosen row are the numbers of its turnout and the
+// state of a decoder.
 
 class Table extends Grid {
   constructor(dcc) {
@@ -74,7 +75,7 @@ class Table extends Grid {
     return n !== null && n >= this.first && n < Math.min(this.rows.length, this.first + ROWS_OF_PAGE);
   }
 
-  /** Chooses a row, and shows below it the state of the decoder after its last packet. */
+  /** Chooses a row. Shows below it the numbers of its turnout, and the state of the decoder after its last packet. */
   choose(n) {
     if (!this.rows.length) return;
     if (!this.isShown(n)) this.turn(n);
@@ -90,6 +91,8 @@ class Table extends Grid {
     const held = cell('td', 'held');
     held.colSpan = 3;
     const item = this.items[this.rows[n].last];
+    const turnout = item.refusal ? '' : turnoutSentence(this.dcc.packetOf(item.bytes));
+    if (turnout) held.append(make('p', 'turnout', turnout));
     held.append(...this.tellState(item, item.heard));
     row.append(held);
     return row;

@@ -27,6 +27,15 @@ const turnoutWords = (board, output) => {
   return `, turnout ${4 * (board - 1) + (output >> 1) + 1}`;
 };
 
+/** Returns a sentence with the numbers of a turnout in both counts, or an empty text for a packet without a turnout. */
+const turnoutSentence = ({ kind, address, output }) => {
+  if (kind !== ACCESSORY || address === 511) return '';
+  const number = 4 * address + (output >> 1) + 1;
+  return address
+    ? `This is turnout ${number - 4} if turnouts are counted from board 1 (NMRA), and ${number} if from board 0.`
+    : `This is turnout ${number} if turnouts are counted from board 0. It has no number if from board 1 (NMRA).`;
+};
+
 /** Returns the effect of a packet for the programming track, or an empty text. */
 const serviceWords = (bytes) => {
   const [first, low, data] = bytes;

@@ -43,6 +43,12 @@ export interface Timing {
 /** Returns the half-bits of a frame in microseconds. */
 export function halves(frame: Bytes, timing?: Timing): number[];
 
+/** Returns the number of the turnout of an output. Turnouts are counted from board 1 (NMRA), or from board 0. */
+export function turnout(board: number, output: number, firstBoard?: 0 | 1): number;
+
+/** Returns the board and the pair of a turnout. The pair has the outputs `2 * pair` and `2 * pair + 1`. */
+export function turnoutPair(number: number, firstBoard?: 0 | 1): { board: number; pair: number };
+
 /** A packet or a refusal. */
 export class Seen {
   constructor(at: number, refusal: string | null, frame: Uint8Array);

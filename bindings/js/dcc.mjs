@@ -173,6 +173,23 @@ export const halves = (bytes, { one = 58, zeroFirst = 100, zeroSecond = 100, pre
   return list;
 };
 
+/** Returns the number of the turnout of an output. A pair of outputs drives one turnout. Turnouts are counted from
+ * board 1 (NMRA), or from board 0. Errors: RangeError if the board is not `firstBoard` to 510, or the output is not 0
+ * to 7. Board 511 stands for all boards. */
+export const turnout = (board, output, firstBoard = 1) => {
+  const first = checkedNumber('firstBoard', firstBoard, 0, 1);
+  const boards = checkedNumber('a board with turnouts', board, first, 510) - first;
+  return 4 * boards + (checkedNumber('an output', output, 0, 7) >> 1) + 1;
+};
+
+/** Returns the board and the pair of a turnout. The pair has the outputs `2 * pair` and `2 * pair + 1`. Errors:
+ * RangeError if the number is not 1 to 2040, or not 1 to 2044 if turnouts are counted from board 0. */
+export const turnoutPair = (number, firstBoard = 1) => {
+  const first = checkedNumber('firstBoard', firstBoard, 0, 1);
+  const pairs = checkedNumber('a turnout', number, 1, 4 * (511 - first)) - 1;
+  return { board: (pairs >> 2) + first, pair: pairs & 3 };
+};
+
 /** A packet or a refusal: the number of its last half-bit, counted from 1, the name of the refusal or null, and its
  * bytes. */
 export class Seen {

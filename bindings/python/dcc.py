@@ -19,6 +19,7 @@ import ctypes
 import operator
 import os
 import re
+import sys
 from array import array
 from collections import namedtuple
 from dataclasses import dataclass
@@ -32,7 +33,7 @@ _u8, _u16, _u32, _u64 = ctypes.c_uint8, ctypes.c_uint16, ctypes.c_uint32, ctypes
 
 MOST_HALVES = 16_777_216  # in a capture, as the program reads it
 MOST_BYTES = 67_108_864
-_PIECE = 1_000_000  # the bytes of a capture that are read at once
+_PIECE = 65_536  # the bytes of a capture that are read at once, so few that they stay in the cache
 
 
 class _Frame(ctypes.Structure):
@@ -122,13 +123,37 @@ class _Service(ctypes.Structure):
     _fields_ = [("in_service", ctypes.c_bool), ("pending", _Frame), ("cvs", _u8 * 1024)]
 
 
+class _ServicePart(ctypes.Structure):
+    _fields_ = [("in_service", ctypes.c_bool), ("pending", _Frame)]
+
+
+class _TrackLoco(ctypes.Structure):
+    _fields_ = [("loco", _Loco), ("service", _ServicePart), ("changed", ctypes.c_bool), ("main_only", ctypes.c_bool)]
+
+
+class _TrackBoard(ctypes.Structure):
+    _fields_ = [
+        ("board", _Board), ("cvs", _u8 * 1024), ("service", _ServicePart), ("changed", ctypes.c_bool),
+        ("main_only", ctypes.c_bool),
+    ]
+
+
+class _Answer(ctypes.Structure):
+    _fields_ = [("changed", _u16), ("acknowledged", ctypes.c_bool)]
+
+
 class _Reader(ctypes.Structure):
     _fields_ = [("cv", _u16), ("known", _u8), ("value", _u8)]
 
 
+class _Writer(ctypes.Structure):
+    _fields_ = [("cv", _u16), ("value", _u8), ("is_verifying", ctypes.c_bool)]
+
+
 _SIZES = (_Frame, 7), (_Framer, 24), (_Outcome, 12), (_Sender, 16), (_Loco, 1072), (_Board, 12), (_Station, 1800)
+_SIZES += (_ServicePart, 8), (_TrackLoco, 1088), (_TrackBoard, 1046), (_Answer, 4)
 _SIZES += (_Lost, 808), (_LostPacket, 28), (_Meter, 1104), (_Statistics, 280), (_Packet, 18)
-_SIZES += (_Service, 1032), (_Reader, 4)
+_SIZES += (_Service, 1032), (_Reader, 4), (_Writer, 4)
 for _object, _size in _SIZES:
     assert ctypes.sizeof(_object) == _size, f"{_object.__name__} is not as dcc.h has it"
 
@@ -162,9 +187,20 @@ _board_apply = _call("dcc_board_apply", _u8, _at(_Board), ctypes.c_char_p, _u64)
 _board_hears = _call("dcc_board_hears", _u8, _at(_Board), ctypes.c_char_p, _u64, _at(ctypes.c_bool))
 _service_new = _call("dcc_service_new", None, _at(_Service), ctypes.c_char_p)
 _service_apply = _call("dcc_service_apply", _u8, _at(_Service), ctypes.c_char_p, _u64, _at(ctypes.c_bool))
+_decoder_new = _call("dcc_decoder_new", None, _at(_TrackLoco), ctypes.c_char_p)
+_decoder_hear = _call("dcc_decoder_hear", _u8, _at(_TrackLoco), ctypes.c_char_p, _u64, _at(_Answer))
+_decoder_end_service = _call("dcc_decoder_end_service", None, _at(_TrackLoco))
+_decoder_set_main_only = _call("dcc_decoder_set_main_only", None, _at(_TrackLoco), ctypes.c_bool)
+_board_decoder_new = _call("dcc_board_decoder_new", None, _at(_TrackBoard), ctypes.c_char_p)
+_board_decoder_hear = _call("dcc_board_decoder_hear", _u8, _at(_TrackBoard), ctypes.c_char_p, _u64, _at(_Answer))
+_board_decoder_end_service = _call("dcc_board_decoder_end_service", None, _at(_TrackBoard))
+_board_decoder_set_main_only = _call("dcc_board_decoder_set_main_only", None, _at(_TrackBoard), ctypes.c_bool)
 _reader_new = _call("dcc_reader_new", _u8, _at(_Reader), _u16)
 _reader_question = _call("dcc_reader_question", _u8, _at(_Reader), _at(_Frame))
 _reader_answer = _call("dcc_reader_answer", _u8, _at(_Reader), ctypes.c_bool, _at(_u8))
+_writer_new = _call("dcc_writer_new", _u8, _at(_Writer), _u16, _u8)
+_writer_question = _call("dcc_writer_question", _u8, _at(_Writer), _at(_Frame))
+_writer_answer = _call("dcc_writer_answer", _u8, _at(_Writer), ctypes.c_bool)
 _station_new = _call("dcc_station_new", _u8, _at(_Station), _u8, _u8, _u8)
 _station_command = _call("dcc_station_command", _u8, _at(_Station), ctypes.c_char_p, _u64)
 _station_next = _call("dcc_station_next", None, _at(_Station), _at(_Frame))
@@ -528,39 +564,46 @@ def _durations(text, line=1, left=None):
 
 
 class _Known(dict):
-    """The durations of words, each of which is computed once. A word that is no duration raises KeyError."""
+    """The half-bits of words, as bytes of an array. Each word is computed once. A word that is no run, and a run whose
+    count has more than two digits, raise KeyError."""
 
     def __missing__(self, word):
-        if len(word) > 10 or not word.isdigit():
+        us, star, count = word.partition(b"*")
+        count = int(count) if star and len(count) <= 2 and count.isdigit() else 0 if star else 1
+        if len(us) > 10 or not us.isdigit() or not count:
             raise KeyError(word)
-        us = min(int(word), 65535)
+        halves = min(int(us), 65535).to_bytes(2, sys.byteorder) * count
         if len(self) < 100_000:
-            self[word] = us
-        return us
+            self[word] = halves
+        return halves
 
 
 _COMMENT, _BLANK = re.compile(rb"#[^\n]*"), re.compile(rb"[ \t\r\n]")
 
 
+def _runs(words, known, left):
+    """Yields the half-bits of each word, as bytes of an array. Errors: KeyError if a word is no run, or if its
+    half-bits are more than the half-bits that are left."""
+    for word in words:
+        us, star, count = word.partition(b"*")
+        count = int(count) if star and len(count) <= 8 and count.isdigit() else 0 if star else 1
+        if not 1 <= count <= left:
+            raise KeyError(word)
+        left -= count
+        yield known[us] * count
+
+
 def _add_words(halves, words, known):
     """Appends the half-bits of words. Returns False, and appends nothing, if a word is no run."""
-    before = len(halves)
     try:
-        halves.extend(map(known.__getitem__, words))
-        return True
+        found = b"".join(map(known.__getitem__, words))
     except KeyError:
-        del halves[before:]
-    try:
-        for word in words:
-            us, star, count = word.partition(b"*")
-            count = int(count) if star and len(count) <= 8 and count.isdigit() else 0 if star else 1
-            if not 1 <= count <= MOST_HALVES + before - len(halves):
-                raise KeyError(word)
-            halves.extend(repeat(known[us], count))
-        return True
-    except KeyError:
-        del halves[before:]
-    return False
+        try:
+            found = b"".join(_runs(words, known, MOST_HALVES - len(halves)))
+        except KeyError:
+            return False
+    halves.frombytes(found)
+    return True
 
 
 def capture(text: Union[str, bytes]) -> "array[int]":
@@ -674,6 +717,33 @@ def halves(
     return list(iter(lambda: _sender_half(sender), 0))
 
 
+def turnout(board: int, output: int, first_board: int = 1) -> int:
+    """Returns the number of the turnout of an output. A pair of outputs drives one turnout.
+
+    Turnouts are counted from board 1 (NMRA), or from board 0 if first_board is 0.
+
+    >>> turnout(40, 2), turnout(40, 2, first_board=0)
+    (158, 162)
+
+    Errors: ValueError if the board is not first_board to 510, or the output is not 0 to 7. Board 511 stands for all
+    boards."""
+    first = _number("first_board", first_board, 0, 1)
+    pairs = 4 * (_number("a board with turnouts", board, first, 510) - first)
+    return pairs + _number("an output", output, 0, 7) // 2 + 1
+
+
+def turnout_pair(number: int, first_board: int = 1) -> Tuple[int, int]:
+    """Returns the board and the pair of a turnout, which has the outputs 2 * pair and 2 * pair + 1.
+
+    >>> turnout_pair(158), turnout_pair(162, first_board=0)
+    ((40, 1), (40, 1))
+
+    Errors: ValueError if the number is not 1 to 2040, or not 1 to 2044 if turnouts are counted from board 0."""
+    first = _number("first_board", first_board, 0, 1)
+    board, pair = divmod(_number("a turnout", number, 1, 4 * (511 - first)) - 1, 4)
+    return board + first, pair
+
+
 def _cv_bytes(cvs):
     """Returns 1024 CVs as bytes."""
     if isinstance(cvs, dict):
@@ -687,23 +757,8 @@ def _cv_bytes(cvs):
     return cvs
 
 
-class Loco:
-    """A locomotive decoder that is powered up with these CVs: 1024 bytes, or a dict of their numbers and values."""
-
-    def __init__(self, cvs: Cvs):
-        self._loco = _Loco()
-        _loco_new(self._loco, _cv_bytes(cvs))
-
-    def apply(self, frame: Bytes) -> None:
-        """Applies the packet of these bytes. A packet for other decoders changes nothing."""
-        frame = _frame_bytes(frame)
-        _check_heard(_loco_apply(self._loco, frame, len(frame)))
-
-    def hears(self, frame: Bytes) -> bool:
-        """Returns True if the packet of these bytes is for this decoder."""
-        heard, frame = ctypes.c_bool(), _frame_bytes(frame)
-        _check_heard(_loco_hears(self._loco, frame, len(frame), heard))
-        return heard.value
+class _LocoRegisters:
+    """The registers and the CVs of a locomotive decoder."""
 
     @property
     def address(self) -> Optional[str]:
@@ -751,27 +806,31 @@ class Loco:
         return "\n".join(lines + [f"cv {number} {value}" for number, value in enumerate(self.cvs, 1) if value])
 
 
-class Board:
-    """An accessory decoder with all off, of a board of 0 to 510."""
+class Loco(_LocoRegisters):
+    """A locomotive decoder that is powered up with these CVs: 1024 bytes, or a dict of their numbers and values."""
 
-    def __init__(self, number: int):
-        self._board = _Board()
-        _check(_board_new(self._board, _number("a board", number, 0, 65535)), "P")
+    def __init__(self, cvs: Cvs):
+        self._loco = _Loco()
+        _loco_new(self._loco, _cv_bytes(cvs))
 
     def apply(self, frame: Bytes) -> None:
         """Applies the packet of these bytes. A packet for other decoders changes nothing."""
         frame = _frame_bytes(frame)
-        _check_heard(_board_apply(self._board, frame, len(frame)))
+        _check_heard(_loco_apply(self._loco, frame, len(frame)))
 
     def hears(self, frame: Bytes) -> bool:
         """Returns True if the packet of these bytes is for this decoder."""
         heard, frame = ctypes.c_bool(), _frame_bytes(frame)
-        _check_heard(_board_hears(self._board, frame, len(frame), heard))
+        _check_heard(_loco_hears(self._loco, frame, len(frame), heard))
         return heard.value
+
+
+class _BoardRegisters:
+    """The registers of an accessory decoder."""
 
     @property
     def number(self) -> int:
-        """Returns its number, 0 to 510."""
+        """Returns its number, 0 to 510. Only a TrackBoard can have the number 511."""
         return self._board.number
 
     @property
@@ -790,9 +849,28 @@ class Board:
         return list(self._board.aspects)
 
     def __str__(self):
-        """Returns its lines in a decoder text (docs/FORMATS.md)."""
+        """Returns its lines in a decoder text (docs/FORMATS.md). A decoder text has no board 511."""
         lines = ("out", self.outputs), ("position", self.positions), ("aspect", self.aspects)
         return "\n".join([f"board {self.number}", *(" ".join(map(str, [head, *words])) for head, words in lines)])
+
+
+class Board(_BoardRegisters):
+    """An accessory decoder with all off, of a board of 0 to 510."""
+
+    def __init__(self, number: int):
+        self._board = _Board()
+        _check(_board_new(self._board, _number("a board", number, 0, 65535)), "P")
+
+    def apply(self, frame: Bytes) -> None:
+        """Applies the packet of these bytes. A packet for other decoders changes nothing."""
+        frame = _frame_bytes(frame)
+        _check_heard(_board_apply(self._board, frame, len(frame)))
+
+    def hears(self, frame: Bytes) -> bool:
+        """Returns True if the packet of these bytes is for this decoder."""
+        heard, frame = ctypes.c_bool(), _frame_bytes(frame)
+        _check_heard(_board_hears(self._board, frame, len(frame), heard))
+        return heard.value
 
 
 class Service:
@@ -819,6 +897,115 @@ class Service:
         return bytes(self._service.cvs)
 
 
+@dataclass(frozen=True)
+class Answer:
+    """The answer of a decoder to a frame.
+
+    The field `acknowledged` is True if the decoder acknowledges the frame. The field `changed` is the number of the CV
+    whose value changed, on either track, or None."""
+
+    acknowledged: bool
+    changed: Optional[int]
+
+
+class _BothTracks:
+    """A decoder that hears the main track and the programming track."""
+
+    def hear(self, frame: Bytes) -> Answer:
+        """Hears a frame of either track. Returns the answer of the decoder.
+
+        The reset 00 00 00 stops the decoder and enters service mode. In service mode, service packets reach only the
+        CVs. Each other frame first ends service mode as `end_service` does. The decoder then hears the frame as on the
+        main track.
+
+        Errors: L1 if the frame has not 3 to 6 bytes, L2 if its error byte is wrong. The decoder then does not change.
+        """
+        answer, frame = _Answer(), _frame_bytes(frame)
+        _check(self._hear(self._decoder, frame, len(frame), answer), "L")
+        return Answer(answer.acknowledged, answer.changed or None)
+
+    def end_service(self) -> None:
+        """Ends service mode. A program calls this function if no packet of service mode comes for 20 milliseconds.
+
+        If a service packet changed a CV since service mode began, the decoder powers up with its CVs, and so has its
+        new address."""
+        self._end_service(self._decoder)
+
+    def set_main_only(self, main_only: bool) -> None:
+        """Keeps the decoder on the main track if main_only is True: then no frame enters service mode, and the decoder
+        acknowledges no frame. If the decoder is in service mode, service mode ends first, as `end_service` ends it. If
+        main_only is False, the decoder can hear both tracks.
+
+        On the main track, frames for the short addresses 112 to 127 look like service packets. After a reset, two
+        copies of the speed packet 7c 3f 85 c6 for address 124 write CV64 of each decoder that can enter service mode.
+
+        Errors: TypeError if main_only is not True or False."""
+        if not isinstance(main_only, bool):
+            raise TypeError(f"main_only is True or False, not {type(main_only).__name__}")
+        self._set_main_only(self._decoder, main_only)
+
+    @property
+    def is_in_service(self) -> bool:
+        """Returns True if the decoder is in service mode."""
+        return self._decoder.service.in_service
+
+
+class TrackLoco(_BothTracks, _LocoRegisters):
+    """A locomotive decoder on the main track and on the programming track (NMRA S-9.2.3) that is powered up with these
+    CVs: 1024 bytes, or a dict of their numbers and values.
+
+    >>> decoder = TrackLoco({1: 3, 29: 2})
+    >>> write = bytes.fromhex("7c000a76")  # the service packet that writes 10 to CV1
+    >>> [decoder.hear(it).acknowledged for it in (bytes(3), write, write)]
+    [False, False, True]
+    >>> decoder.end_service()
+    >>> decoder.address
+    's10'"""
+
+    _hear, _end_service, _set_main_only = _decoder_hear, _decoder_end_service, _decoder_set_main_only
+
+    def __init__(self, cvs: Cvs):
+        self._decoder = _TrackLoco()
+        _decoder_new(self._decoder, _cv_bytes(cvs))
+
+    @property
+    def _loco(self):
+        return self._decoder.loco
+
+
+class TrackBoard(_BothTracks, _BoardRegisters):
+    """An accessory decoder on the main track and on the programming track (NMRA S-9.2.3) that is powered up with these
+    CVs: 1024 bytes, or a dict of their numbers and values.
+
+    The lower six bits of its number are in CV1, and the upper three bits in CV9. A decoder with the number 511 hears
+    only the packets for all accessory decoders. No packet of the main track changes a CV. If the decoder powers up
+    after service mode, its outputs are off, and its positions and aspects do not change.
+
+    >>> TrackBoard({1: 12, 9: 1}).number
+    76"""
+
+    _hear, _end_service = _board_decoder_hear, _board_decoder_end_service
+    _set_main_only = _board_decoder_set_main_only
+
+    def __init__(self, cvs: Cvs):
+        self._decoder = _TrackBoard()
+        _board_decoder_new(self._decoder, _cv_bytes(cvs))
+
+    @property
+    def _board(self):
+        return self._decoder.board
+
+    @property
+    def cvs(self) -> bytes:
+        """Returns its CVs, CV1 first."""
+        return bytes(self._decoder.cvs)
+
+
+def _check_yes(yes):
+    if not isinstance(yes, bool):
+        raise TypeError(f"an answer is True or False, not {type(yes).__name__}")
+
+
 class Reader:
     """The reading of a CV on a programming track by nine questions (NMRA S-9.2.3).
 
@@ -842,14 +1029,42 @@ class Reader:
         Returns None if there is a further question, and the value of the CV after the ninth question.
 
         Errors: S1 if the decoder did not acknowledge the ninth question."""
-        if not isinstance(yes, bool):
-            raise TypeError(f"an answer is True or False, not {type(yes).__name__}")
+        _check_yes(yes)
         value = _u8()
         state = _reader_answer(self._reader, yes, value)
         if state == 2:
             raise Refused("S1")
         _check(state if state > 2 else 0, "P")
         return value.value if state == 1 else None
+
+
+class Writer:
+    """The writing of a CV on a programming track by two questions (NMRA S-9.2.3). The first question writes a byte, and
+    the second question verifies that the CV has this byte.
+
+    >>> writer = Writer(1, 10)
+    >>> writer.question().hex()
+    '7c000a76'"""
+
+    def __init__(self, cv: int, value: int):
+        self._writer = _Writer()
+        _check(_writer_new(self._writer, _number("a CV", cv, 0, 65535), _number("a value", value, 0, 255)), "P")
+
+    def question(self) -> bytes:
+        """Returns the frame of the next question. A station sends three resets, and then this frame five times."""
+        found = _Frame()
+        _check(_writer_question(self._writer, found), "P")
+        return bytes(found)
+
+    def answer(self, yes: bool) -> Optional[bool]:
+        """Takes the answer to the question: True if the decoder acknowledged it.
+
+        Returns None after the first question, whatever the answer is. After the second question, returns True if the
+        decoder acknowledged it, so that the CV has the byte, and False otherwise."""
+        _check_yes(yes)
+        state = _writer_answer(self._writer, yes)
+        _check(state if state > 2 else 0, "P")
+        return None if state == 0 else state == 1
 
 
 class Station:

@@ -7,6 +7,7 @@ with spoilt half-bits.
 """
 import array
 import collections
+import copy
 import io
 import itertools
 import os
@@ -30,7 +31,7 @@ if not PROGRAM:
 import dcc
 import dcc_analyser
 
-IDLE = b"\xff\0\xff"
+IDLE, RESET = b"\xff\0\xff", bytes(3)
 SPEED = bytes([0x03, 0x62, 0x61])  # loco s3 speed28 f 4
 
 
@@ -90,6 +91,18 @@ def run(fleet, capture):
     """The text of each decoder after the program has played a capture to it."""
     text = program("run", text=text_of(fleet) + capture)
     return re.split(r"\n(?=loco|board|end)", text)[1:-1]
+
+
+def service_write(cv, value):
+    """The service packet that writes a value to a CV."""
+    first, place = 0x7C | (cv - 1) >> 8, (cv - 1) & 0xFF
+    return bytes([first, place, value, first ^ place ^ value])
+
+
+def answers(decoder, *frames):
+    """Whether a decoder on both tracks acknowledges each of these frames, and the CV that changes."""
+    found = [decoder.hear(it) for it in frames]
+    return [(it.acknowledged, it.changed) for it in found]
 
 
 def is_for(decoder, line):
@@ -287,6 +300,113 @@ class ByHand(unittest.TestCase):
         self.assertEqual(
             (board.number, board.outputs, board.positions, board.aspects), (12, [2, 7], [0, 0, 0, 1], [0, 0, 0, 9])
         )
+
+    def test_a_loco_is_programmed_and_has_its_new_address(self):
+        loco, write, to_10 = dcc.TrackLoco({1: 3, 29: 2}), service_write(1, 10), dcc.frame("loco s10 speed28 r 5")
+        self.assertEqual((loco.address, loco.speed, loco.is_in_service), ("s3", "stop", False))
+        # (a decoder that is not in service mode hears no service packet)
+        self.assertEqual(answers(loco, write, write, SPEED), [(False, None)] * 3)
+        self.assertEqual((loco.speed, loco.cvs, loco.is_in_service), ((1, 28), dcc.Loco({1: 3, 29: 2}).cvs, False))
+        self.assertEqual(answers(loco, RESET, RESET, RESET), [(False, None)] * 3)
+        self.assertEqual((loco.speed, loco.is_in_service), ("stop", True))
+        self.assertEqual(answers(loco, *[write] * 4), [(False, None), (True, 1), (True, None), (True, None)])
+        self.assertEqual((loco.address, loco.cvs[0], loco.is_in_service), ("s3", 10, True))
+        loco.end_service()
+        self.assertEqual((loco.address, loco.is_in_service), ("s10", False))
+        self.assertEqual(answers(loco, SPEED, to_10), [(False, None)] * 2)
+        self.assertEqual((loco.speed, loco.is_forward), ((2, 28), False))
+        loco.hear(SPEED)
+        self.assertEqual((loco.speed, loco.is_forward), ((2, 28), False))
+        self.assertEqual(loco.hear(RESET), dcc.Answer(acknowledged=False, changed=None))
+        self.assertEqual(answers(loco, *[service_write(1024, 255)] * 2), [(False, None), (True, 1024)])
+        self.assertEqual(loco.cvs[1023], 255)
+
+    def test_a_board_is_programmed_and_has_its_new_number(self):
+        board, to_all = dcc.TrackBoard({1: 12, 9: 1}), dcc.frame("accessory 511 7 on")
+        to_76, to_12 = dcc.frame("accessory 76 5 on"), dcc.frame("accessory 12 0 on")
+        self.assertEqual((board.number, board.outputs, board.is_in_service), (76, [], False))
+        self.assertEqual(answers(board, to_12, to_76, dcc.frame("signal 305 9")), [(False, None)] * 3)
+        self.assertEqual((board.outputs, board.positions, board.aspects), ([5], [0, 0, 1, 0], [0, 9, 0, 0]))
+        self.assertEqual(answers(board, RESET, *[service_write(9, 0)] * 2), [(False, None)] * 2 + [(True, 9)])
+        self.assertEqual((board.number, board.is_in_service, board.cvs[8]), (76, True, 0))
+        self.assertEqual((board.cvs[0], len(board.cvs)), (12, 1024))
+        # (a frame of the main track ends service mode)
+        self.assertEqual(answers(board, to_76, to_12), [(False, None)] * 2)
+        self.assertEqual((board.number, board.outputs, board.positions), (12, [0], [0, 0, 1, 0]))
+        self.assertFalse(board.is_in_service)
+        answers(board, RESET, *[service_write(1, 13)] * 2)
+        board.end_service()
+        self.assertEqual((board.number, board.is_in_service), (13, False))
+        all_boards = dcc.TrackBoard({1: 63, 9: 7})
+        answers(all_boards, dcc.frame("accessory 510 0 on"), to_all)
+        self.assertEqual((all_boards.number, all_boards.outputs), (511, [7]))
+
+    def test_decoders_stay_on_the_main_track(self):
+        speed = bytes([0x7C, 0x3F, 0x85, 0xC6])  # on the programming track, a write of CV64
+        self.assertEqual(dcc.line(speed), "loco s124 speed128 f 5")
+        for decoder in dcc.TrackLoco({1: 124, 29: 2}), dcc.TrackBoard({}):
+            decoder.hear(RESET)
+            self.assertTrue(decoder.is_in_service)
+            decoder.set_main_only(True)
+            self.assertFalse(decoder.is_in_service)
+            self.assertEqual(answers(decoder, RESET, speed, speed), [(False, None)] * 3)
+            self.assertEqual((decoder.is_in_service, decoder.cvs[63]), (False, 0))
+            if isinstance(decoder, dcc.TrackLoco):
+                self.assertEqual(decoder.speed, (4, 126))
+            decoder.set_main_only(False)
+            self.assertEqual(answers(decoder, RESET, speed, speed), [(False, None), (False, None), (True, 64)])
+            self.assertEqual((decoder.is_in_service, decoder.cvs[63]), (True, 0x85))
+            for wrong in 1, 0, None, "yes":
+                self.assertRaises(TypeError, decoder.set_main_only, wrong)
+            self.assertTrue(decoder.is_in_service)
+            decoder.set_main_only(True)
+            self.assertFalse(decoder.is_in_service)
+
+    def test_decoders_on_both_tracks_have_registers(self):
+        for main_only in False, True:
+            fleet = decoders()
+            both = [dcc.TrackLoco(it.cvs) for it in fleet[:4]]
+            both += [dcc.TrackBoard({1: it.number % 64, 9: it.number // 64}) for it in fleet[4:]]
+            for it in both:
+                it.set_main_only(main_only)
+            for line in rows():
+                frame = dcc.frame(line)
+                for it, other in zip(both, fleet):
+                    before = enumerate(it.cvs, 1)
+                    other.apply(frame)
+                    heard = answers(it, frame)
+                    self.assertEqual(str(it), str(other), line)
+                    changed = [cv for (cv, old), new in zip(before, it.cvs) if old != new] or [None]
+                    self.assertEqual([heard], [[(False, cv)] for cv in changed], line)
+            self.assertNotEqual(both[0].cvs, decoders()[0].cvs)
+
+    def test_decoders_on_both_tracks_refuse_what_is_no_frame(self):
+        for decoder in dcc.TrackLoco({1: 3, 29: 2}), dcc.TrackBoard({1: 3}):
+            answers(decoder, RESET, service_write(1, 5), service_write(1, 5))
+            before = bytes(decoder._decoder)
+            for frame in b"", b"\1\1", bytes(7):
+                self.assertRefused("L1", decoder.hear, frame)
+            self.assertRefused("L2", decoder.hear, b"\1\2\4")
+            self.assertRaises(TypeError, decoder.hear, "idle")
+            self.assertRaises(ValueError, decoder.hear, [0, 0, 256])
+            self.assertEqual((bytes(decoder._decoder), decoder.is_in_service), (before, True))
+            of_its_own = copy.deepcopy(decoder)
+            of_its_own.end_service()
+            self.assertEqual((of_its_own.is_in_service, bytes(decoder._decoder)), (False, before))
+            self.assertIn("5", str(of_its_own).split("\n")[0])
+        for kind in dcc.TrackLoco, dcc.TrackBoard:
+            self.assertRaises(TypeError, kind, None)
+            self.assertRaises(ValueError, kind, b"\3")
+            self.assertRaises(ValueError, kind, {1025: 1})
+            self.assertEqual(kind([7] * 1024).cvs, bytes([7] * 1024))
+
+    def test_decoders_on_both_tracks_are_all_zeros_before_their_first_call(self):
+        for kind, name in (dcc.TrackLoco, "_decoder_new"), (dcc.TrackBoard, "_board_decoder_new"):
+            with unittest.mock.patch.object(dcc, name) as call:
+                decoder = kind({1: 3, 1024: 9})
+            given, cvs = call.call_args[0]
+            self.assertIs(given, decoder._decoder)
+            self.assertEqual((bytes(given).strip(b"\0"), cvs), (b"", bytes([3, *[0] * 1022, 9])))
 
     def test_a_decoder_hears_what_changes_it(self):
         # (each of these packets changes a decoder that hears it, one that is new or one that was set by the lines
@@ -538,6 +658,31 @@ class ByHand(unittest.TestCase):
         self.assertRefused("L1", dcc.read, b"\1\1")
         self.assertRefused("L2", dcc.read, b"\1\2\4")
 
+    def test_turnouts_are_those_of_show(self):
+        boards, outputs = range(511), range(8)
+        lines = [f"accessory {board} {output} on" for board in boards for output in outputs]
+        capture = program("encode", text="\n".join(lines) + "\n")
+        shown = [re.sub(r".*turnout ", "", it) for it in program("show", "--plain", text=capture).splitlines()]
+        self.assertEqual([str(dcc.turnout(board, output)) for board in boards[1:] for output in outputs], shown[8:])
+        numbers = [dcc.turnout(board, output, first_board=0) for board in boards for output in outputs]
+        self.assertEqual(numbers, [n // 2 + 1 for n in range(4088)])
+        self.assertEqual((dcc.turnout(40, 2), dcc.turnout(40, 2, 0)), (158, 162))
+        for first, most in (1, 2040), (0, 2044):
+            for number in range(1, most + 1):
+                board, pair = dcc.turnout_pair(number, first)
+                sides = [dcc.turnout(board, 2 * pair + side, first) for side in (0, 1)]
+                self.assertEqual((sides, board <= 510, pair <= 3), ([number] * 2, True, True))
+            for number in 0, most + 1:
+                self.assertRaises(ValueError, dcc.turnout_pair, number, first)
+            for board, output in (first - 1, 0), (511, 0), (first, -1), (510, 8):
+                self.assertRaises(ValueError, dcc.turnout, board, output, first)
+        self.assertEqual((dcc.turnout_pair(158), dcc.turnout_pair(2044, 0)), ((40, 1), (510, 3)))
+        for first in -1, 2:
+            self.assertRaises(ValueError, dcc.turnout, 40, 2, first)
+            self.assertRaises(ValueError, dcc.turnout_pair, 158, first)
+        for call, arguments in (dcc.turnout, (40.0, 2)), (dcc.turnout, (40, "2")), (dcc.turnout_pair, (None,)):
+            self.assertRaises(TypeError, call, *arguments)
+
     def test_a_cv_is_read_as_readcv_reads_it(self):
         for cv, value in (1, 10), (29, 2), (8, 200), (1024, 255), (17, 0):
             service, reader, lines, result = dcc.Service({cv: value}), dcc.Reader(cv), [], None
@@ -571,6 +716,33 @@ class ByHand(unittest.TestCase):
         self.assertRaises(TypeError, dcc.Service, None)
         self.assertRaises(ValueError, dcc.Reader, -1)
 
+    def test_a_cv_is_written_by_two_questions(self):
+        service = dcc.Service({1: 3, 8: 200})
+        rows = [(1, 10, "7c000a76 yes 74000a7e yes", True), (1024, 0xA5, "7fffa525 yes 77ffa52d yes", True)]
+        rows += [(8, 201, "7c07c9b2 no 7407c9ba no", False), (8, 200, "7c07c8b3 no 7407c8bb yes", True)]
+        for cv, value, text, end in rows:
+            writer, lines, state = dcc.Writer(cv, value), [], None
+            while state is None:
+                question = writer.question()
+                yes = any([service.apply(it) for it in [bytes(3)] * 3 + [question] * 5])
+                lines.append(f"{question.hex()} {'yes' if yes else 'no'}")
+                state = writer.answer(yes)
+            self.assertEqual((" ".join(lines), state), (text, end))
+        self.assertEqual([service.cvs[it] for it in (0, 1, 7, 1023)], [10, 0, 200, 0xA5])
+        for first in False, True:
+            writer = dcc.Writer(3, 255)
+            answers = [writer.answer(it) for it in (first, False, True)]
+            self.assertEqual([type(it) for it in answers], [type(None), bool, bool])
+            self.assertEqual(answers, [None, False, True])
+        for cv in 0, 1025, 65535:
+            self.assertRefused("P6", dcc.Writer, cv, 1)
+        writer._writer.cv = 0
+        self.assertRefused("P13", writer.question)
+        self.assertRefused("P13", writer.answer, True)
+        self.assertRaises(TypeError, writer.answer, 1)
+        self.assertRaises(ValueError, dcc.Writer, 1, 256)
+        self.assertRaises(ValueError, dcc.Writer, -1, 1)
+
     def test_whole_captures_are_read_as_half_bits_one_by_one(self):
         good = "58*28 100*14 58*4 100*4 58*4 100*6 58*2 100*6 58*4 100*8 58*4"
         faults = "58*0|58*-3|58*|58x|*5|+58|58*16777217|58*000000001|58*5*2|12345678901|00000000058|---|5,8|58\x0c58|\0"
@@ -580,7 +752,7 @@ class ByHand(unittest.TestCase):
         texts += [f"{line} # {line}\n" * 6 + last for last in ("58", "58x", "\n\n58 # x", "#")]
         texts += ["58 " * 340 + last for last in ("58x", "57", "5 # 8\n57 58*2")] + ["#" * 1500 + "\n58 58x"]
         texts += ["1" * 1200, "58 " * 333 + "58" * 4 + "*3 58", "65535 65536 " * 120]
-        for text, piece in itertools.product(texts, (1, 7, 100, 1_000_000)):
+        for text, piece in itertools.product(texts, (1, 7, 100, dcc._PIECE)):
             wanted = list_of(dcc.durations, text)
             with unittest.mock.patch.object(dcc, "_PIECE", piece):
                 try:

@@ -1,9 +1,8 @@
 /* SPDX-License-Identifier: MIT OR Apache-2.0
  *
  * A command line over the library for C, for computers without the proved program: Windows, macOS, a Raspberry Pi. Its
- * commands `show`, `lost` and `encode` do the same as those of the proved program (docs/FORMATS.md), but it has no
- * `show --plain` and no `lost --spikes`. The functions of the library are proved. The code of this file is tested, not
- * proved.
+ * commands `show`, `lost` and `encode` do the same as those of the proved program (docs/FORMATS.md). The functions of
+ * the library are proved. The code of this file is tested, not proved.
  *
  *   cc -O2 -Ic -o dcc examples/c/dcc.c c/dcc.c
  */
@@ -66,6 +65,13 @@ static void put_number(unsigned long number) {
     put_bytes(digits, (size_t)sprintf(digits, "%lu", number));
 }
 
+/* Writes `before`, a number, and `after`. */
+static void put_between(const char *before, unsigned long number, const char *after) {
+    put(before);
+    put_number(number);
+    put(after);
+}
+
 static void put_hex(const dcc_frame *frame) {
     static const char digits[] = "0123456789abcdef";
     for (int i = 0; i < frame->len; i++) {
@@ -74,8 +80,12 @@ static void put_hex(const dcc_frame *frame) {
     }
 }
 
-/* Writes what was buffered before an error of the input, and ends the program with the text of the error. */
+/* Writes the line that is left to write when the input ends, also if it ends with an error. */
+static void (*write_last_line)(void);
+
+/* Writes the lines before an error of the input, and ends the program with the text of the error. */
 static void refuse(const char *format, unsigned long line, unsigned code) {
+    if (write_last_line) write_last_line();
     flush();
     end_with(STATUS_ERROR, format, line, code);
 }
@@ -91,7 +101,7 @@ static int next_byte(void) {
         flush();
         int n = (int)read(0, in, BUFFER);
         if (n == 0) return EOF;
-        if (n < 0 && errno != EINTR) end_with(STATUS_ERROR, "dcc: U4 read failed");
+        if (n < 0 && errno != EINTR) refuse("dcc: U4 read failed", 0, 0);
         at = 0;
         len = n < 0 ? 0 : (unsigned)n;
     }
@@ -142,18 +152,151 @@ static bool read_run(uint16_t *us, uint32_t *n) {
     return true;
 }
 
-static void put_packet(const dcc_frame *frame, bool words) {
+/* ---- plain words ---- */
+
+static void put_address(const dcc_packet *packet) {
+    if (packet->to == DCC_ALL) {
+        put("all locomotives");
+    } else {
+        put_between("locomotive ", packet->address, packet->to == DCC_LONG ? " (long)" : "");
+    }
+}
+
+/* Writes a speed. With 28 steps, two values of the speed bits mean stop, and the next two mean emergency stop. */
+static void put_speed(const dcc_packet *packet) {
+    unsigned stops = packet->kind == DCC_SPEED28 ? 2 : 1;
+    if (packet->kind == DCC_SPEED28 && packet->to == DCC_ALL && packet->bits > 3) {
+        put("nothing to do");
+        return;
+    }
+    if (packet->bits < stops) {
+        put("stop");
+    } else if (packet->bits < 2 * stops) {
+        put("emergency stop");
+    } else {
+        put_between("step ", packet->bits - (2 * stops - 1), packet->kind == DCC_SPEED28 ? " of 28" : " of 126");
+    }
+    put(packet->forward ? ", forward" : ", reverse");
+}
+
+static void put_functions(const dcc_packet *packet) {
+    unsigned first = packet->group, count = first == 0 ? 5 : first < 13 ? 4 : 8;
+    const char *before = "F";
+    for (unsigned i = 0; i < count; i++) {
+        unsigned place = first > 0 ? i : i > 0 ? i - 1 : 4; /* in group 0, the highest bit is F0 */
+        if (!(packet->bits >> place & 1)) continue;
+        put_between(before, first + i, "");
+        before = ", F";
+    }
+    if (before[0] == ',') put(" on, the rest of ");
+    put_between("F", first, " to ");
+    put_between("F", first + count - 1, " off");
+}
+
+static void put_state(const dcc_packet *packet) {
+    if (packet->state == 0) {
+        put("all binary states");
+    } else {
+        put_between("binary state ", packet->state, "");
+    }
+    put(packet->on ? " on" : " off");
+}
+
+/* Writes an access to a CV or to a bit of a CV. */
+static void put_cv(const dcc_packet *packet) {
+    bool is_bit = packet->kind == DCC_CV_BIT_WRITE || packet->kind == DCC_CV_BIT_VERIFY;
+    bool is_write = packet->kind == DCC_CV_WRITE || packet->kind == DCC_CV_BIT_WRITE;
+    if (!is_write) put("is ");
+    if (is_bit) put_between("bit ", packet->place, " of ");
+    put_between("CV", packet->cv, is_write ? " := " : " ");
+    put_between("", is_bit ? packet->one : packet->value, is_write ? "" : "?");
+}
+
+static void put_accessory(const dcc_packet *packet) {
+    put_between("board ", packet->address, ", output ");
+    put_between("", packet->output, packet->on ? " on" : " off");
+    if (packet->address == 511) {
+        put(", all boards");
+    } else if (packet->address > 0) {
+        put_between(", turnout ", 4 * (packet->address - 1u) + packet->output / 2u + 1, "");
+    }
+}
+
+static void put_signal(const dcc_packet *packet) {
+    if (packet->address == 2047) {
+        put("all signals");
+    } else {
+        put_between("signal ", packet->address, "");
+    }
+    put_between(": aspect ", packet->aspect, "");
+}
+
+/* Writes the access to a CV of a service packet to *packet. Returns false if the frame is not that of a service
+ * packet. */
+static bool read_service(const dcc_frame *frame, dcc_packet *packet) {
+    const uint8_t *bytes = frame->bytes;
+    if (frame->len != 4) return false;
+    packet->cv = (uint16_t)(256 * (bytes[0] & 3) + bytes[1] + 1);
+    packet->value = bytes[2];
+    packet->place = bytes[2] & 7;
+    packet->one = bytes[2] >> 3 & 1;
+    switch (bytes[0] & 0xfc) {
+    case 0x7c: packet->kind = DCC_CV_WRITE; return true;
+    case 0x74: packet->kind = DCC_CV_VERIFY; return true;
+    case 0x78:
+        if (bytes[2] < 0xe0) return false;
+        packet->kind = bytes[2] & 16 ? DCC_CV_BIT_WRITE : DCC_CV_BIT_VERIFY;
+        return true;
+    default: return false;
+    }
+}
+
+/* Writes the plain words of the packet of a frame. */
+static void put_plain_words(const dcc_frame *frame) {
     char line[DCC_LINE];
-    if (words && dcc_line(frame->bytes, frame->len, line) == 0) {
+    dcc_packet packet;
+    if (dcc_read(frame->bytes, frame->len, &packet)) return;
+    if (packet.kind >= DCC_RESET && packet.kind <= DCC_CV_BIT_VERIFY) {
+        put_address(&packet);
+        put(": ");
+    } else if (packet.kind == DCC_OTHER && read_service(frame, &packet)) {
+        put("on a programming track: ");
+    }
+    switch (packet.kind) {
+    case DCC_IDLE: put("nothing to do"); break;
+    case DCC_RESET: put("stop, everything off"); break;
+    case DCC_SPEED28:
+    case DCC_SPEED128: put_speed(&packet); break;
+    case DCC_FUNCTIONS: put_functions(&packet); break;
+    case DCC_STATE: put_state(&packet); break;
+    case DCC_ACCESSORY: put_accessory(&packet); break;
+    case DCC_SIGNAL: put_signal(&packet); break;
+    case DCC_OTHER:
+        if (dcc_line(frame->bytes, frame->len, line) == 0) put(line);
+        break;
+    default: put_cv(&packet);
+    }
+}
+
+/* ---- listings ---- */
+
+/* How packets are written: in hex, as packet lines, or in plain words. */
+typedef enum { HEX, LINES, PLAIN } writing;
+
+static void put_packet(const dcc_frame *frame, writing how) {
+    char line[DCC_LINE];
+    if (how == PLAIN) {
+        put_plain_words(frame);
+    } else if (how == LINES && dcc_line(frame->bytes, frame->len, line) == 0) {
         put(line);
     } else {
         put_hex(frame);
     }
 }
 
-static void put_outcome(const dcc_outcome *outcome, bool words) {
+static void put_outcome(const dcc_outcome *outcome, writing how) {
     if (outcome->refusal == 0) {
-        put_packet(&outcome->frame, words);
+        put_packet(&outcome->frame, how);
         return;
     }
     put("refused H");
@@ -163,7 +306,7 @@ static void put_outcome(const dcc_outcome *outcome, bool words) {
 }
 
 /* `dcc show` */
-static void show(bool words) {
+static void show(writing how) {
     static dcc_framer framer;
     dcc_outcome outcome;
     unsigned long before = 0; /* the number of half-bits before the run */
@@ -173,10 +316,12 @@ static void show(bool words) {
         if (!dcc_push_run(&framer, us, n, &outcome)) continue;
         put_number(before + outcome.at);
         put(" ");
-        put_outcome(&outcome, words);
+        put_outcome(&outcome, how);
         put("\n");
     }
 }
+
+/* ---- lost packets ---- */
 
 static void put_off_limits(const char *before, const char *name, const dcc_off_limits *off) {
     unsigned long numbers[] = {off->count, off->least, off->most};
@@ -190,9 +335,13 @@ static void put_off_limits(const char *before, const char *name, const dcc_off_l
     }
 }
 
-/* Writes the causes of a lost packet whose last half-bit has the number `half`. */
-static void put_causes(unsigned long half, const dcc_lost_packet *lost) {
+/* Writes the line of a lost packet whose last half-bit has the number `half`, with its causes and the number of its
+ * spikes. */
+static void put_lost(unsigned long half, const dcc_lost_packet *lost, unsigned long spikes, writing how) {
     const dcc_short_preamble *preamble = &lost->preamble;
+    put_between("", half, " lost ");
+    put_packet(&lost->frame, how);
+    put(": ");
     if (preamble->is_short) {
         put("preamble ");
         put_number(preamble->ones);
@@ -202,11 +351,15 @@ static void put_causes(unsigned long half, const dcc_lost_packet *lost) {
         put_number(half - preamble->since_refusal);
     }
     put_off_limits(preamble->is_short ? ", " : "", "ones", &lost->ones);
-    put_off_limits(preamble->is_short || lost->ones.count > 0 ? ", " : "", "zeros", &lost->zeros);
+    bool has_cause = preamble->is_short || lost->ones.count > 0;
+    put_off_limits(has_cause ? ", " : "", "zeros", &lost->zeros);
+    has_cause = has_cause || lost->zeros.count > 0;
+    if (spikes > 0) put_between(has_cause ? ", spikes " : "spikes ", spikes, "");
+    put("\n");
 }
 
-/* `dcc lost` */
-static void list_lost(bool words) {
+/* `dcc lost` without --spikes */
+static void list_lost(writing how) {
     static dcc_lost finder;
     dcc_lost_packet lost;
     unsigned long half = 0; /* the number of half-bits so far */
@@ -218,15 +371,154 @@ static void list_lost(bool words) {
             uint32_t at = dcc_lost_push_run(&finder, us, n, &lost);
             taken = at ? at : n;
             half += taken;
-            if (!at) continue;
-            put_number(half);
-            put(" lost ");
-            put_packet(&lost.frame, words);
-            put(": ");
-            put_causes(half, &lost);
-            put("\n");
+            if (at) put_lost(half, &lost, 0, how);
         }
     }
+}
+
+/* ---- packets with spikes ---- */
+
+/* The half-bits of the longest body, and 20 half-bits of ones before it. */
+enum { BODY_AND_ONES = 18 * 6 + 2 + 20 };
+
+/* A half-bit, joined with the spikes next to it. */
+typedef struct {
+    uint16_t us;     /* the sum of its half-bits, at most 65535 */
+    uint16_t spikes; /* the number of its spikes, at most 65535 */
+    uint8_t unused;  /* the half-bits directly before it that no outcome uses, at most 20 */
+    bool has_packet; /* true if a decoder hears a packet that ends with one of its half-bits */
+} joined_half;
+
+/* What `dcc lost --spikes` stores of a capture. */
+static struct {
+    writing how;
+    uint16_t limit;      /* each half-bit shorter than this number of microseconds is a spike */
+    unsigned long half;  /* the number of half-bits */
+    dcc_framer framer;   /* hears the half-bits of the capture */
+    uint8_t unused;      /* the half-bits after the last outcome, and the two of its end bit; at most 20 */
+    bool is_refused;     /* true if the last outcome is a refusal */
+    uint8_t since;       /* the half-bits after the last outcome, at most 255 */
+    dcc_lost finder;     /* finds packets in the nearest classes of the closed joined half-bits */
+    joined_half newest;  /* the last joined half-bit, which the next half-bit can still extend */
+    bool takes_next;     /* true if `newest` takes in the next half-bit, for example after a spike */
+    joined_half closed[BODY_AND_ONES]; /* the closed joined half-bits; number n is in the place n % BODY_AND_ONES */
+    unsigned long count; /* the number of closed joined half-bits */
+} spiked;
+
+/* Returns the closed joined half-bit that is `n` before the next one. The joined half-bits before the first one are
+ * zeros. */
+static const joined_half *closed_before(unsigned n) {
+    static const joined_half none;
+    return n > spiked.count ? &none : &spiked.closed[(spiked.count - n) % BODY_AND_ONES];
+}
+
+static bool is_between(uint16_t us, unsigned least, unsigned most) { return us >= least && us <= most; }
+
+static bool is_nearest_one(uint16_t us) { return is_between(us, 26, 76); }
+static bool is_off_one(uint16_t us) { return is_between(us, 26, 51) || is_between(us, 65, 76); }
+static bool is_off_zero(uint16_t us) { return is_between(us, 77, 89) || is_between(us, 10001, 20000); }
+
+/* Hears a half-bit of the capture. Returns true if it completes a packet. */
+static bool hear(uint16_t us) {
+    dcc_outcome outcome;
+    spiked.half++;
+    if (!dcc_push(&spiked.framer, us, &outcome)) {
+        spiked.unused += spiked.unused < 20;
+        spiked.since += spiked.since < 255;
+        return false;
+    }
+    spiked.is_refused = outcome.refusal > 0;
+    spiked.since = 0;
+    /* the end bit of a packet, of H3 and of H5 can begin the next preamble */
+    bool has_end_bit = outcome.refusal == 0 || outcome.refusal == DCC_H3_TOO_SHORT
+        || outcome.refusal == DCC_H5_ERROR_BYTE;
+    spiked.unused = has_end_bit ? 2 : 0;
+    return outcome.refusal == 0;
+}
+
+/* Returns true if no body is unfinished. A half-bit of 0 microseconds is a refusal in each unfinished body, so a copy
+ * of the framer takes such a half-bit. */
+static bool is_between_bodies(void) {
+    dcc_framer copy = spiked.framer;
+    dcc_outcome outcome;
+    return !dcc_push(&copy, 0, &outcome);
+}
+
+/* Counts the joined half-bits outside the limits of a decoder among the last `n` closed ones. */
+static dcc_off_limits count_off(unsigned n, bool (*is_off)(uint16_t)) {
+    dcc_off_limits off = {0, 0, 0};
+    for (; n > 0; n--) {
+        uint16_t us = closed_before(n)->us;
+        if (!is_off(us)) continue;
+        if (off.count == 0 || us < off.least) off.least = us;
+        if (us > off.most) off.most = us;
+        off.count++;
+    }
+    return off;
+}
+
+/* Writes the line of the packet with this frame, whose body is the end of the closed joined half-bits. Writes nothing
+ * if a decoder hears a packet that ends in this body. */
+static void put_spiked(const dcc_frame *frame) {
+    unsigned body = 18u * frame->len + 2, ones = 0;
+    dcc_lost_packet lost = {0};
+    unsigned long spikes = 0;
+    for (unsigned n = 1; n <= body; n++) {
+        if (closed_before(n)->has_packet) return;
+    }
+    while (ones < 20 && is_nearest_one(closed_before(body + ones + 1)->us)) ones++;
+    for (unsigned n = 1; n <= body + ones; n++) spikes += closed_before(n)->spikes;
+    uint8_t unused = closed_before(body)->unused;
+    lost.frame = *frame;
+    lost.ones = count_off(body + ones, is_off_one);
+    lost.zeros = count_off(body + ones, is_off_zero);
+    lost.preamble.is_short = ones < 20 || unused < 20;
+    lost.preamble.ones = (uint8_t)(unused < ones ? unused : ones);
+    lost.preamble.after_refusal = unused < ones && spiked.is_refused && spiked.since < 255;
+    lost.preamble.since_refusal = spiked.since;
+    put_lost(spiked.half, &lost, spikes, spiked.how);
+}
+
+/* Closes the last joined half-bit, and begins an empty one. Writes the line of the packet that ends with the closed
+ * one. */
+static void close_joined(void) {
+    uint16_t us = spiked.newest.us;
+    bool is_free = is_between_bodies();
+    dcc_lost_packet found;
+    spiked.closed[spiked.count++ % BODY_AND_ONES] = spiked.newest;
+    spiked.newest = (joined_half){0, 0, is_free ? spiked.unused : 0, false};
+    /* A decoder hears no half-bit of 70, 85 or 0 microseconds. So the finder finds each frame whose body is the end of
+     * the joined half-bits in their nearest classes, after at least 8 half-bits of ones. */
+    uint16_t nearest = is_nearest_one(us) ? 70 : is_between(us, 77, 20000) ? 85 : 0;
+    if (!dcc_lost_push(&spiked.finder, nearest, &found)) return;
+    bool ends_with_refusal = spiked.is_refused && spiked.since == 0;
+    if (is_free && !ends_with_refusal) put_spiked(&found.frame);
+}
+
+/* Takes a half-bit of the capture. A spike, and the half-bit directly after a spike, extend the last joined half-bit.
+ * If this next half-bit is a spike too, the half-bit after it is not joined for its sake. */
+static void join(uint16_t us) {
+    bool is_spike = us < spiked.limit;
+    if (!is_spike && !spiked.takes_next) close_joined();
+    joined_half *newest = &spiked.newest;
+    newest->has_packet |= hear(us);
+    newest->us = us > 65535 - newest->us ? 65535 : (uint16_t)(newest->us + us);
+    newest->spikes += is_spike && newest->spikes < 65535;
+    spiked.takes_next = is_spike && !spiked.takes_next;
+}
+
+/* `dcc lost --spikes LIMIT` */
+static void list_lost_with_spikes(writing how, uint8_t limit) {
+    uint16_t us;
+    uint32_t n;
+    spiked.how = how;
+    spiked.limit = limit;
+    spiked.takes_next = true; /* the first half-bit has no half-bit before it */
+    write_last_line = close_joined;
+    while (read_run(&us, &n)) {
+        for (; n > 0; n--) join(us);
+    }
+    close_joined(); /* no half-bit extends the last one */
 }
 
 /* ---- packet lines ---- */
@@ -348,11 +640,13 @@ static const char *const show_help =
     "Usage: dcc show [OPTIONS]\n\n"
     "Options:\n"
     "      --words  Write packets as packet lines, not in hex\n"
+    "      --plain  Write packets in plain words: speed steps, functions, turnouts\n"
     "  -h, --help   Print help\n\n"
     "It reads a capture from standard input: durations of half-bits in microseconds, or\n"
     "runs such as 58*28, with # before a comment. tools/to-capture makes a capture of a\n"
     "VCD or CSV file.\n\n"
-    "  dcc show --words < capture.txt\n"
+    "  dcc show --words < capture.txt      84 loco s3 speed28 f 20\n"
+    "  dcc show --plain < capture.txt      84 locomotive 3: step 17 of 28, forward\n"
     "  echo '58*28 100*2 58*16 100*20 58*18' | dcc show\n\n"
     "A line has the number of the last half-bit, and the packet or its error:\n"
     "  H1  a half-bit of neither a one (52 to 64) nor a zero (90 to 10000)\n"
@@ -368,11 +662,13 @@ static const char *const lost_help =
     "Lists the packets of a capture that a decoder does not hear, with the causes\n\n"
     "Usage: dcc lost [OPTIONS]\n\n"
     "Options:\n"
-    "      --words  Write packets as packet lines, not in hex\n"
-    "  -h, --help   Print help\n\n"
+    "      --words        Write packets as packet lines, not in hex\n"
+    "      --spikes <US>  Join half-bits shorter than US microseconds, 1 to 25, with their neighbours\n"
+    "  -h, --help         Print help\n\n"
     "It reads a capture from standard input, as `dcc show` does, and writes a line for each\n"
     "packet that was sent but that no decoder hears:\n\n"
     "  dcc lost --words < capture.txt\n"
+    "  dcc lost --spikes 5 < capture.txt\n"
     "  echo '58*16 100*14 58*4 100*4 58*4 100*6 58*2 100*6 58*4 100*8 58*4' | dcc lost\n\n"
     "A line has the number of the last half-bit of the packet, the packet, and the causes:\n"
     "  preamble N               only N half-bits of ones before the packet, fewer than 20\n"
@@ -380,7 +676,10 @@ static const char *const lost_help =
     "  ones N from A to B       N half-bits of ones outside 52 to 64 microseconds\n"
     "  zeros N from A to B      N half-bits of zeros outside 90 to 10000 microseconds\n"
     "No packet is listed both here and by `dcc show`. A packet with a rejection inside it\n"
-    "can be listed here too. The program ends with U2, U4 or U7, as `dcc show` does.\n"
+    "can be listed here too. With --spikes US, half-bits shorter than US microseconds are\n"
+    "joined with their neighbours, and a packet can have one more cause:\n"
+    "  spikes N                 N such half-bits in the packet and its preamble\n"
+    "The program ends with U2, U4 or U7, as `dcc show` does.\n"
     "docs/FORMATS.md has the whole format.\n";
 
 static const char *const encode_help =
@@ -426,8 +725,14 @@ typedef struct {
     const char *name;
     bool *flag;
     uint8_t *number;
+    const char *value; /* the name of the number in texts */
+    uint8_t least, most;
     bool is_given;
 } option;
+
+#define FLAG(name, flag) {name, flag, 0, 0, 0, 0, false}
+#define NUMBER(name, number, value, least, most) {name, 0, number, value, least, most, false}
+#define NO_OPTION {0, 0, 0, 0, 0, 0, false}
 
 /* Returns the option that `word` names, up to an equals sign. Ends the program if there is no such option. */
 static option *option_of(const char *word, option *options) {
@@ -435,7 +740,10 @@ static option *option_of(const char *word, option *options) {
     for (option *it = options; it->name; it++) {
         if (strlen(it->name) == len && !memcmp(it->name, word, len)) return it;
     }
-    if (strncmp(word, "--", 2)) len = word[0] == '-' && word[1] ? 2 : strlen(word);
+    if (strncmp(word, "--", 2)) {
+        len = word[0] == '-' && word[1] ? 2 : strlen(word);
+        while (((unsigned char)word[len] & 0xc0) == 0x80) len++;
+    }
     char *name = malloc(len + 1);
     if (!name) end_with(STATUS_ERROR, "dcc: U6 out of memory");
     memcpy(name, word, len);
@@ -444,62 +752,75 @@ static option *option_of(const char *word, option *options) {
     return 0;
 }
 
-/* Ends the program since `word` is not a number from 0 to 255 for the option `name`. */
-static void refuse_value(const char *word, const char *name, const char *why) {
-    char text[64];
-    snprintf(text, sizeof text, "%s <%s>", name, name + 2);
-    fprintf(stderr, "error: invalid value '%s' for '%s': %s", word, text, why);
+/* Ends the program since `word` is no number for an option. */
+static void refuse_value(const char *word, const option *it, const char *why) {
+    fprintf(stderr, "error: invalid value '%s' for '%s <%s>': %s", word, it->name, it->value, why);
     end_with(STATUS_USAGE, "\n\nFor more information, try '--help'.");
 }
 
-/* Returns the number that `word` spells, for the option `name`. */
-static uint8_t number_of(const char *word, const char *name) {
+/* Returns the number that `word` spells, for an option. */
+static uint8_t number_of(const char *word, const option *it) {
     const char *digits = word + (*word == '+' || *word == '-');
-    if (!*word) refuse_value(word, name, "cannot parse integer from empty string");
-    if (!*digits || digits[strspn(digits, "0123456789")]) refuse_value(word, name, "invalid digit found in string");
+    if (!*word) refuse_value(word, it, "cannot parse integer from empty string");
+    if (!*digits || digits[strspn(digits, "0123456789")]) refuse_value(word, it, "invalid digit found in string");
     errno = 0;
     long long number = strtoll(word, 0, 10);
     if (errno) {
-        refuse_value(word, name, *word == '-' ? "number too small to fit in target type"
+        refuse_value(word, it, *word == '-' ? "number too small to fit in target type"
             : "number too large to fit in target type");
     }
-    if (number < 0 || number > 255) {
+    if (number < it->least || number > it->most) {
         char why[64];
-        snprintf(why, sizeof why, "%lld is not in 0..=255", number);
-        refuse_value(word, name, why);
+        snprintf(why, sizeof why, "%lld is not in %d..=%d", number, it->least, it->most);
+        refuse_value(word, it, why);
     }
     return (uint8_t)number;
 }
 
-/* Reads the arguments after a command. No option follows the argument `--`. */
-static void read_options(char **words, option *options, const char *help) {
-    for (; *words; words++) {
-        if (!strcmp(*words, "--help") || !strcmp(*words, "-h")) print_help(help);
-        if (!strcmp(*words, "--")) {
-            if (words[1]) refuse_argument("unexpected argument '%s' found", words[1], "");
-            return;
-        }
-        option *it = option_of(*words, options);
-        const char *value = strchr(*words, '=');
-        if (it->flag) {
-            if (value) {
-                refuse_argument("unexpected value '%s' for '%s' found; no more were expected", value + 1, it->name);
-            }
-            *it->flag = true;
-        } else {
-            if (!value && (!words[1] || !strncmp(words[1], "--", 2))) {
-                refuse_argument("a value is required for '%s <%s>' but none was supplied", it->name, it->name + 2);
-            }
-            if (!value && words[1][0] == '-' && words[1][1]) option_of(words[1], options);
-            value = value ? value + 1 : *++words;
-        }
-        if (it->is_given && it->flag) refuse_argument("the argument '%s' cannot be used multiple times", it->name, "");
-        if (it->is_given) {
-            refuse_argument("the argument '%s <%s>' cannot be used multiple times", it->name, it->name + 2);
-        }
-        it->is_given = true;
-        if (it->number) *it->number = number_of(value, it->name);
+/* Uses an option: a flag, or an option with a value. Without an option nothing is used. */
+static void use(option *it, const char *value) {
+    if (!it) return;
+    if (!it->flag && !value) {
+        refuse_argument("a value is required for '%s <%s>' but none was supplied", it->name, it->value);
     }
+    if (it->is_given && it->flag) refuse_argument("the argument '%s' cannot be used multiple times", it->name, "");
+    if (it->is_given) {
+        refuse_argument("the argument '%s <%s>' cannot be used multiple times", it->name, it->value);
+    }
+    it->is_given = true;
+    if (it->flag) *it->flag = true;
+    else *it->number = number_of(value, it);
+}
+
+/* Reads the arguments after a command. No option follows the argument `--`. An option whose value is the next argument
+ * is used after the argument that follows them was found to be an option. */
+static void read_options(char **words, option *options, const char *help) {
+    option *waiting = 0; /* the option that is not used yet, and its value if the value was read */
+    const char *waiting_value = 0;
+    for (; *words && strcmp(*words, "--"); words++) {
+        const char *word = *words, *value = strchr(word, '=');
+        if (!strncmp(word, "--help=", 7)) {
+            refuse_argument("unexpected value '%s' for '--help' found; no more were expected", value + 1, "");
+        }
+        if (!strcmp(word, "--help") || !strncmp(word, "-h", 2)) {
+            use(waiting, waiting_value);
+            print_help(help);
+        }
+        if ((word[0] != '-' || !word[1]) && waiting && !waiting_value) {
+            waiting_value = word;
+            continue;
+        }
+        option *it = option_of(word, options);
+        if (it->flag && value) {
+            refuse_argument("unexpected value '%s' for '%s' found; no more were expected", value + 1, it->name);
+        }
+        use(waiting, waiting_value);
+        waiting = it->flag || value ? 0 : it;
+        waiting_value = 0;
+        if (!waiting) use(it, value ? value + 1 : 0);
+    }
+    if (*words && words[1]) refuse_argument("unexpected argument '%s' found", words[1], "");
+    use(waiting, waiting_value);
 }
 
 /* Returns true if the bytes of `word` are UTF-8. */
@@ -519,14 +840,17 @@ static bool is_utf8(const char *word) {
 }
 
 int main(int argc, char **argv) {
-    bool words = false;
+    bool words = false, plain = false;
+    uint8_t spikes = 0;
     encoding how = {false, false, false, 16, 32, 2};
-    option show_options[] = {{"--words", &words, 0, false}, {0, 0, 0, false}};
+    option show_options[] = {FLAG("--words", &words), FLAG("--plain", &plain), NO_OPTION};
+    option lost_options[] = {FLAG("--words", &words), NUMBER("--spikes", &spikes, "US", 1, 25), NO_OPTION};
     option encode_options[] = {
-        {"--hex", &how.hex, 0, false}, {"--service", &how.service, 0, false}, {"--station", &how.station, 0, false},
-        {"--queue", 0, &how.queue, false}, {"--slots", 0, &how.slots, false}, {"--repeats", 0, &how.repeats, false},
-        {0, 0, 0, false},
+        FLAG("--hex", &how.hex), FLAG("--service", &how.service), FLAG("--station", &how.station),
+        NUMBER("--queue", &how.queue, "queue", 0, 255), NUMBER("--slots", &how.slots, "slots", 0, 255),
+        NUMBER("--repeats", &how.repeats, "repeats", 0, 255), NO_OPTION,
     };
+    option no_options[] = {NO_OPTION};
 #ifdef _WIN32
     for (int stream = 0; stream < 3; stream++) _setmode(stream, _O_BINARY);
 #endif
@@ -541,15 +865,17 @@ int main(int argc, char **argv) {
     if (!strcmp(command, "--version") || !strcmp(command, "-V")) print_help("dcc " DCC_VERSION " in C\n");
     if (!strcmp(command, "show")) {
         read_options(argv + 2, show_options, show_help);
-        show(words);
+        if (plain && words) refuse_argument("the argument '%s' cannot be used with '%s'", "--plain", "--words");
+        show(plain ? PLAIN : words ? LINES : HEX);
     } else if (!strcmp(command, "lost")) {
-        read_options(argv + 2, show_options, lost_help);
-        list_lost(words);
+        read_options(argv + 2, lost_options, lost_help);
+        if (spikes > 0) list_lost_with_spikes(words ? LINES : HEX, spikes);
+        else list_lost(words ? LINES : HEX);
     } else if (!strcmp(command, "encode")) {
         read_options(argv + 2, encode_options, encode_help);
         encode(&how);
     } else if (command[0] == '-') {
-        option_of(command, show_options + 1);
+        option_of(command, no_options);
     } else {
         refuse_argument("unrecognized subcommand '%s'", command, "");
     }

@@ -43,7 +43,8 @@ static void names_have_their_numbers(void) {
     HOLDS(DCC_C1_SIZES == 1 && DCC_C2_MEMORY == 2 && DCC_C3_NO_COMMAND == 3 && DCC_C4_QUEUE_FULL == 4);
     HOLDS(DCC_MAIN_TRACK == 14 && DCC_PROGRAMMING_TRACK == 20);
     HOLDS(DCC_ALL == 0 && DCC_SHORT == 1 && DCC_LONG == 2);
-    HOLDS(DCC_MORE == 0 && DCC_VALUE == 1 && DCC_NO_ANSWER == 2);
+    HOLDS(DCC_MORE == 0 && DCC_VALUE == 1 && DCC_NO_ANSWER == 2 && DCC_DONE == 1 && DCC_FAILED == 2);
+    HOLDS(DCC_CV_WRITE == 6 && DCC_CV_VERIFY == 7 && DCC_CV_BIT_WRITE == 8 && DCC_CV_BIT_VERIFY == 9);
 }
 
 /* So `static dcc_framer framer;` needs no call before its first half-bit. */
@@ -709,6 +710,154 @@ static void a_small_decoder_in_service_needs_one_cv(void) {
     HOLDS(yes && !changed && value == 3 && service.pending.len == 5);
 }
 
+/* The frame of a service packet that writes a value to a CV, CV1 to CV256. */
+static dcc_frame service_write(uint16_t cv, uint8_t value) {
+    uint8_t place = (uint8_t)(cv - 1);
+    return (dcc_frame){4, {0x7C, place, value, (uint8_t)(0x7C ^ place ^ value)}};
+}
+
+static const uint8_t reset[3] = {0x00, 0x00, 0x00}, idle[3] = {0xFF, 0x00, 0xFF};
+
+/* The decoders on both tracks of the rows below. Each row begins with decoders of zeros. */
+static dcc_decoder decoder;
+static dcc_board_decoder board;
+
+/* Makes both decoders zeros, and returns the CVs of a new decoder. */
+static const uint8_t *begun_with(uint8_t cv1, uint8_t cv9, uint8_t cv29) {
+    static uint8_t cvs[DCC_CVS];
+    memset(&decoder, 0, sizeof decoder);
+    memset(&board, 0, sizeof board);
+    cvs[0] = cv1, cvs[8] = cv9, cvs[28] = cv29;
+    return cvs;
+}
+
+/* Returns true if the decoder takes the frame, acknowledges it or not, and says that this CV changed. */
+static bool hears(const uint8_t *frame, uint8_t len, bool acknowledged, uint16_t changed) {
+    dcc_answer answer = {7, !acknowledged};
+    return dcc_decoder_hear(&decoder, frame, len, &answer) == 0 && answer.acknowledged == acknowledged
+        && answer.changed == changed;
+}
+
+static bool board_takes(const uint8_t *frame, uint8_t len, bool acknowledged, uint16_t changed) {
+    dcc_answer answer = {7, !acknowledged};
+    return dcc_board_decoder_hear(&board, frame, len, &answer) == 0 && answer.acknowledged == acknowledged
+        && answer.changed == changed;
+}
+
+/* A decoder is programmed on the programming track, and then drives under its new address. */
+static void a_decoder_changes_between_the_tracks(void) {
+    static const uint8_t to_7[3] = {0x07, 0x62, 0x65};
+    const uint8_t *cvs = begun_with(3, 0, 2);
+    dcc_frame write = service_write(1, 7);
+    bool heard = false;
+    dcc_decoder_new(&decoder, cvs);
+    HOLDS(decoder.loco.address_kind == DCC_SHORT && decoder.loco.address == 3);
+    HOLDS(!memcmp(decoder.loco.cvs, cvs, DCC_CVS));
+    HOLDS(decoder.loco.forward && !decoder.service.in_service && !decoder.changed && !decoder.main_only);
+    HOLDS(hears(speed, 3, false, 0));
+    HOLDS(decoder.loco.speed_mode == 28 && decoder.loco.step == 1 && !decoder.service.in_service);
+    HOLDS(hears(write.bytes, 4, false, 0) && hears(write.bytes, 4, false, 0));
+    HOLDS(decoder.loco.cvs[0] == 3 && decoder.loco.step == 1);
+    HOLDS(hears(reset, 3, false, 0));
+    HOLDS(decoder.service.in_service && decoder.loco.speed_mode == 0);
+    HOLDS(hears(write.bytes, 4, false, 0) && decoder.service.pending.len == 4 && !decoder.changed);
+    HOLDS(hears(write.bytes, 4, true, 1) && decoder.loco.cvs[0] == 7 && decoder.changed);
+    HOLDS(hears(write.bytes, 4, true, 0) && decoder.changed);
+    HOLDS(hears(reset, 3, false, 0) && decoder.changed && decoder.loco.address == 3);
+    HOLDS(hears(idle, 3, false, 0));
+    HOLDS(!decoder.service.in_service && !decoder.changed && decoder.loco.address == 7);
+    HOLDS(hears(speed, 3, false, 0) && decoder.loco.step == 0);
+    HOLDS(hears(to_7, 3, false, 0) && decoder.loco.step == 1);
+    HOLDS(dcc_loco_hears(&decoder.loco, to_7, 3, &heard) == 0 && heard);
+}
+
+static void a_decoder_of_zeros_powers_up_with_stored_cvs(void) {
+    begun_with(0, 0, 0);
+    dcc_frame write = service_write(17, 199);
+    HOLDS(hears(speed, 3, false, 0) && decoder.loco.address_kind == 0 && decoder.loco.speed_mode == 0);
+    HOLDS(hears(reset, 3, false, 0) && hears(write.bytes, 4, false, 0));
+    HOLDS(hears(write.bytes, 4, true, 17) && decoder.loco.cvs[16] == 199);
+    decoder.loco.cvs[17] = 208, decoder.loco.cvs[28] = 34;
+    dcc_decoder_power_up(&decoder);
+    HOLDS(decoder.loco.address_kind == DCC_LONG && decoder.loco.address == 2000 && decoder.loco.cvs[16] == 199);
+    HOLDS(!decoder.service.in_service && decoder.service.pending.len == 0 && !decoder.changed && !decoder.main_only);
+    dcc_frame on = frame_of("accessory 0 3 on");
+    HOLDS(board_takes(on.bytes, on.len, false, 0) && board.board.outs == 8 && board.board.positions[1]);
+    board.cvs[0] = 63, board.cvs[8] = 7;
+    dcc_board_decoder_power_up(&board);
+    HOLDS(board.board.number == 511 && board.board.outs == 0 && board.board.positions[1] && board.cvs[8] == 7);
+}
+
+/* A CV that was written on the main track gives the decoder no new address before the next power-up. */
+static void only_a_service_packet_moves_the_address(void) {
+    static const uint8_t on_main[5] = {0x03, 0xEC, 0x00, 0x09, 0xE6};
+    dcc_frame write = service_write(3, 20);
+    dcc_decoder_new(&decoder, begun_with(3, 0, 2));
+    HOLDS(hears(on_main, 5, false, 0) && hears(on_main, 5, false, 1) && decoder.loco.cvs[0] == 9);
+    HOLDS(hears(reset, 3, false, 0));
+    dcc_decoder_end_service(&decoder);
+    HOLDS(!decoder.service.in_service && decoder.loco.address == 3);
+    HOLDS(hears(reset, 3, false, 0) && hears(write.bytes, 4, false, 0));
+    HOLDS(hears(write.bytes, 4, true, 3) && decoder.loco.address == 3);
+    dcc_decoder_end_service(&decoder);
+    HOLDS(!decoder.service.in_service && !decoder.changed && decoder.loco.address == 9);
+}
+
+/* On the main track, 7c3f85c6 is a speed packet for address 124. */
+static void a_decoder_stays_on_the_main_track(void) {
+    static const uint8_t both[4] = {0x7C, 0x3F, 0x85, 0xC6};
+    dcc_decoder_new(&decoder, begun_with(124, 0, 2));
+    HOLDS(hears(reset, 3, false, 0) && decoder.service.in_service);
+    dcc_decoder_set_main_only(&decoder, true);
+    HOLDS(decoder.main_only && !decoder.service.in_service);
+    HOLDS(hears(reset, 3, false, 0) && !decoder.service.in_service);
+    HOLDS(hears(both, 4, false, 0) && hears(both, 4, false, 0) && decoder.loco.cvs[63] == 0);
+    HOLDS(decoder.loco.speed_mode == 126 && decoder.loco.step == 4);
+    dcc_decoder_set_main_only(&decoder, false);
+    HOLDS(!decoder.main_only && hears(reset, 3, false, 0) && decoder.service.in_service);
+    HOLDS(hears(both, 4, false, 0) && hears(both, 4, true, 64) && decoder.loco.cvs[63] == 0x85);
+    dcc_board_decoder_set_main_only(&board, true);
+    HOLDS(board_takes(reset, 3, false, 0) && !board.service.in_service && board.main_only);
+    HOLDS(board_takes(both, 4, false, 0) && board_takes(both, 4, false, 0) && board.cvs[63] == 0);
+    dcc_board_decoder_set_main_only(&board, false);
+    HOLDS(!board.main_only && board_takes(reset, 3, false, 0) && board.service.in_service);
+}
+
+static void a_board_changes_between_the_tracks(void) {
+    const uint8_t *cvs = begun_with(12, 1, 0);
+    dcc_frame on = frame_of("accessory 76 5 on"), write = service_write(9, 0), on_12 = frame_of("accessory 12 0 on");
+    dcc_board_decoder_new(&board, cvs);
+    HOLDS(board.board.number == 76 && board.board.outs == 0 && !board.board.positions[2] && !board.main_only);
+    HOLDS(!memcmp(board.cvs, cvs, DCC_CVS) && !board.service.in_service && !board.changed);
+    HOLDS(board_takes(on.bytes, on.len, false, 0) && board.board.outs == 32 && board.board.positions[2]);
+    HOLDS(board_takes(reset, 3, false, 0) && board.service.in_service && board.board.outs == 0);
+    HOLDS(board_takes(write.bytes, 4, false, 0) && board_takes(write.bytes, 4, true, 9));
+    HOLDS(board.cvs[8] == 0 && board.changed && board.board.number == 76);
+    HOLDS(board_takes(on_12.bytes, on_12.len, false, 0) && board.board.number == 12 && board.board.outs == 1);
+    HOLDS(board.board.positions[2] && !board.service.in_service && !board.changed);
+    HOLDS(board_takes(reset, 3, false, 0) && board.service.in_service);
+    write = service_write(1, 13);
+    HOLDS(board_takes(write.bytes, 4, false, 0) && board_takes(write.bytes, 4, true, 1));
+    dcc_board_decoder_end_service(&board);
+    HOLDS(board.board.number == 13 && !board.service.in_service && !board.changed);
+}
+
+static void a_decoder_is_left_where_the_frame_is_none(void) {
+    static dcc_decoder before;
+    static dcc_board_decoder board_before;
+    dcc_answer answer = {7, true};
+    begun_with(0, 0, 0);
+    HOLDS(hears(reset, 3, false, 0) && board_takes(reset, 3, false, 0));
+    before = decoder, board_before = board;
+    HOLDS(dcc_decoder_hear(&decoder, speed, 2, &answer) == DCC_L1_LENGTH);
+    HOLDS(dcc_decoder_hear(&decoder, seven_bytes, 7, &answer) == DCC_L1_LENGTH);
+    HOLDS(dcc_decoder_hear(&decoder, wrong_error_byte, 3, &answer) == DCC_L2_ERROR_BYTE);
+    HOLDS(dcc_board_decoder_hear(&board, speed, 2, &answer) == DCC_L1_LENGTH);
+    HOLDS(dcc_board_decoder_hear(&board, wrong_error_byte, 3, &answer) == DCC_L2_ERROR_BYTE);
+    HOLDS(answer.changed == 7 && answer.acknowledged);
+    HOLDS(!memcmp(&decoder, &before, sizeof before) && !memcmp(&board, &board_before, sizeof board_before));
+}
+
 static void a_cv_is_read_by_nine_questions(void) {
     /* CV1024 has 0xA5; a verify of a bit, and of the byte */
     static const uint8_t first[4] = {0x7B, 0xFF, 0xE8, 0x6C}, ninth[4] = {0x77, 0xFF, 0xA5, 0x2D};
@@ -743,6 +892,92 @@ static void a_reading_of_no_cv_is_refused(void) {
         HOLDS(dcc_reader_answer(&reader, true, &value) == DCC_P13_STATE && value == 99);
         HOLDS(!memcmp(&reader, &rows[i], sizeof reader));
     }
+}
+
+static void a_cv_is_written_by_two_questions(void) {
+    /* CV1024 gets 0xA5; a write and a verify of the byte */
+    static const uint8_t first[4] = {0x7F, 0xFF, 0xA5, 0x25}, second[4] = {0x77, 0xFF, 0xA5, 0x2D};
+    for (int yes = 0; yes < 2; yes++) {
+        dcc_writer writer;
+        dcc_frame question;
+        HOLDS(dcc_writer_new(&writer, 1024, 0xA5) == 0);
+        HOLDS(writer.cv == 1024 && writer.value == 0xA5 && !writer.is_verifying);
+        HOLDS(dcc_writer_question(&writer, &question) == 0 && is_frame(&question, first, 4));
+        HOLDS(dcc_writer_answer(&writer, yes) == DCC_MORE);
+        HOLDS(writer.cv == 1024 && writer.value == 0xA5 && writer.is_verifying);
+        HOLDS(dcc_writer_question(&writer, &question) == 0 && is_frame(&question, second, 4));
+        HOLDS(dcc_writer_answer(&writer, false) == DCC_FAILED && writer.is_verifying);
+        HOLDS(dcc_writer_answer(&writer, true) == DCC_DONE);
+        HOLDS(writer.cv == 1024 && writer.value == 0xA5 && writer.is_verifying);
+    }
+}
+
+static void a_writing_of_no_cv_is_refused(void) {
+    static const dcc_writer rows[] = {{0, 9, false}, {0, 9, true}, {1025, 9, false}, {65535, 9, true}};
+    dcc_writer writer = {7, 7, true};
+    HOLDS(dcc_writer_new(&writer, 0, 9) == DCC_P6_CV);
+    HOLDS(dcc_writer_new(&writer, 1025, 9) == DCC_P6_CV);
+    HOLDS(writer.cv == 7 && writer.value == 7 && writer.is_verifying);
+    for (size_t i = 0; i < sizeof rows / sizeof *rows; i++) {
+        dcc_frame question = {.len = 99};
+        writer = rows[i];
+        HOLDS(dcc_writer_question(&writer, &question) == DCC_P13_STATE && question.len == 99);
+        HOLDS(dcc_writer_answer(&writer, true) == DCC_P13_STATE);
+        HOLDS(!memcmp(&writer, &rows[i], sizeof writer));
+    }
+}
+
+static void service_packets_have_their_frames(void) {
+    static const struct {
+        dcc_service_packet packet;
+        uint8_t frame[4];
+    } rows[] = {
+        {{1, DCC_CV_WRITE, 10, 0, false}, {0x7C, 0x00, 0x0A, 0x76}},
+        {{1, DCC_CV_VERIFY, 10, 0, false}, {0x74, 0x00, 0x0A, 0x7E}},
+        {{1024, DCC_CV_BIT_WRITE, 0, 5, true}, {0x7B, 0xFF, 0xFD, 0x79}},
+        {{1024, DCC_CV_BIT_VERIFY, 0, 5, false}, {0x7B, 0xFF, 0xE5, 0x61}},
+    };
+    for (size_t i = 0; i < sizeof rows / sizeof *rows; i++) {
+        dcc_service_packet packet;
+        dcc_frame frame;
+        memset(&packet, 7, sizeof packet);
+        HOLDS(dcc_service_frame(&rows[i].packet, &frame) == 0 && is_frame(&frame, rows[i].frame, 4));
+        HOLDS(dcc_service_read(rows[i].frame, 4, &packet) == 0);
+        HOLDS(!memcmp(&packet, &rows[i].packet, sizeof packet));
+    }
+    /* a write of a byte has no place and no bit */
+    dcc_frame frame;
+    HOLDS(dcc_service_frame(&(dcc_service_packet){1, DCC_CV_WRITE, 10, 8, true}, &frame) == 0);
+    HOLDS(is_frame(&frame, rows[0].frame, 4));
+}
+
+static void service_packets_and_their_faults(void) {
+    static const struct {
+        dcc_service_packet packet;
+        uint8_t fault;
+    } rows[] = {
+        {{0, DCC_STATE, 0, 8, false}, DCC_P10_WORD},
+        {{1, DCC_ACCESSORY, 0, 0, false}, DCC_P10_WORD},
+        {{1, 255, 0, 0, false}, DCC_P10_WORD},
+        {{0, DCC_CV_WRITE, 0, 0, false}, DCC_P6_CV},
+        {{1025, DCC_CV_VERIFY, 0, 0, false}, DCC_P6_CV},
+        {{0, DCC_CV_BIT_WRITE, 0, 8, false}, DCC_P6_CV},
+        {{1, DCC_CV_BIT_WRITE, 0, 8, false}, DCC_P7_BIT_PLACE},
+        {{1, DCC_CV_BIT_VERIFY, 0, 255, true}, DCC_P7_BIT_PLACE},
+    };
+    for (size_t i = 0; i < sizeof rows / sizeof *rows; i++) {
+        dcc_frame frame = {.len = 99};
+        HOLDS(dcc_service_frame(&rows[i].packet, &frame) == rows[i].fault && frame.len == 99);
+    }
+    /* a bit access has 1111DBBB or 1110DBBB */
+    static const uint8_t no_access[4] = {0x78, 0x00, 0xD8, 0xA0}, kept[6] = {7, 7, 7, 7, 7, 1};
+    dcc_service_packet packet;
+    memcpy(&packet, kept, sizeof packet);
+    HOLDS(dcc_service_read(no_access, 4, &packet) == DCC_P10_WORD);
+    HOLDS(dcc_service_read(speed, 3, &packet) == DCC_P10_WORD);
+    HOLDS(dcc_service_read(speed, 2, &packet) == DCC_L1_LENGTH);
+    HOLDS(dcc_service_read(wrong_error_byte, 3, &packet) == DCC_L2_ERROR_BYTE);
+    HOLDS(!memcmp(&packet, kept, sizeof packet));
 }
 
 /* Whether the next packet of a station is that of a line. */
@@ -820,8 +1055,18 @@ int main(void) {
     a_small_loco_needs_one_cv();
     a_decoder_is_powered_up_with_its_cvs();
     a_small_decoder_in_service_needs_one_cv();
+    a_decoder_changes_between_the_tracks();
+    a_decoder_of_zeros_powers_up_with_stored_cvs();
+    only_a_service_packet_moves_the_address();
+    a_decoder_stays_on_the_main_track();
+    a_board_changes_between_the_tracks();
+    a_decoder_is_left_where_the_frame_is_none();
     a_cv_is_read_by_nine_questions();
     a_reading_of_no_cv_is_refused();
+    a_cv_is_written_by_two_questions();
+    a_writing_of_no_cv_is_refused();
+    service_packets_have_their_frames();
+    service_packets_and_their_faults();
     a_station_sends_and_refreshes();
     return wrong;
 }

@@ -20,8 +20,11 @@
     X(meter_push_run) X(meter_push_many) X(meter_read) X(read) X(line) X(frame_of_line) X(halves) X(sender_start) \
     X(sender_half) X(loco_new) X(loco_apply) X(loco_hears) X(board_new) X(board_apply) X(board_hears) X(service_new) \
     X(service_apply) X(loco_power_up) X(service_power_up) X(small_loco_new) X(small_loco_cv) X(small_loco_apply) \
-    X(small_loco_hears) X(small_service_new) X(small_service_cv) X(small_service_apply) X(reader_new) \
-    X(reader_question) X(reader_answer) X(station_new) X(station_command) X(station_next) X(station_waiting) \
+    X(small_loco_hears) X(small_service_new) X(small_service_cv) X(small_service_apply) X(decoder_new) \
+    X(decoder_power_up) X(decoder_hear) X(decoder_end_service) X(decoder_set_main_only) X(board_decoder_new) \
+    X(board_decoder_power_up) X(board_decoder_hear) X(board_decoder_end_service) X(board_decoder_set_main_only) \
+    X(reader_new) X(reader_question) X(reader_answer) X(writer_new) X(writer_question) X(writer_answer) \
+    X(service_frame) X(service_read) X(station_new) X(station_command) X(station_next) X(station_waiting) \
     X(station_entries)
 
 #define NUMBER(name) F_##name,
@@ -74,7 +77,11 @@ static dcc_board board;
 static dcc_service service;
 static dcc_small_loco small_loco;
 static dcc_small_service small_service;
+static dcc_decoder decoder;
+static dcc_board_decoder board_decoder;
 static dcc_reader reader;
+static dcc_writer writer;
+static dcc_service_packet service_packet;
 static dcc_station station;
 static uint8_t cvs[DCC_CVS], room[8], *frame;
 static uint8_t len;
@@ -395,6 +402,97 @@ static void call_decoders(void) {
     add(heard), add(service.in_service), add_frame(&service.pending), add_bytes(service.cvs, DCC_CVS);
 }
 
+static void add_decoder(void) {
+    uint8_t i;
+    const dcc_loco *in = &decoder.loco;
+    add(in->address_kind), add(in->speed_mode), add(in->step), add(in->forward), add(in->address);
+    add_frame(&in->pending);
+    for (i = 0; i < 2; i++) {
+        add((uint32_t)in->functions[i]), add((uint32_t)(in->functions[i] >> 32));
+        add((uint32_t)in->states[i]), add((uint32_t)(in->states[i] >> 32));
+    }
+    add_bytes(in->cvs, DCC_CVS);
+    add(decoder.service.in_service), add_frame(&decoder.service.pending), add(decoder.changed), add(decoder.main_only);
+}
+
+static void add_board_decoder(void) {
+    uint8_t i;
+    const dcc_board *in = &board_decoder.board;
+    add(in->number), add(in->outs);
+    for (i = 0; i < 4; i++) add(in->positions[i]), add(in->aspects[i]);
+    add_bytes(board_decoder.cvs, DCC_CVS);
+    add(board_decoder.service.in_service), add_frame(&board_decoder.service.pending);
+    add(board_decoder.changed), add(board_decoder.main_only);
+}
+
+/* Both decoders hear a frame, perhaps twice. */
+static void call_hear(const uint8_t *frame, uint8_t len) {
+    uint8_t times = (uint8_t)(1 + below(2));
+    dcc_answer answer;
+    memset(&answer, 1, sizeof answer);
+    while (times-- > 0) {
+        called(F_decoder_hear);
+        add(dcc_decoder_hear(&decoder, frame, len, &answer));
+        add(answer.changed), add(answer.acknowledged), add_decoder();
+        called(F_board_decoder_hear);
+        add(dcc_board_decoder_hear(&board_decoder, frame, len, &answer));
+        add(answer.changed), add(answer.acknowledged), add_board_decoder();
+    }
+}
+
+/* Decoders on both tracks: often in service mode, with service packets for few CVs. */
+static void call_track_decoders(void) {
+    static const uint8_t reset[3] = {0, 0, 0}, few[] = {0, 0, 6, 8, 16, 28};
+    uint8_t asked[8], i, sum = 0;
+    bool main_only = one_of(8);
+    if (first_or_one_of(40)) {
+        called(F_decoder_new);
+        dcc_decoder_new(&decoder, cvs);
+        add_decoder();
+        called(F_board_decoder_new);
+        dcc_board_decoder_new(&board_decoder, cvs);
+        add_board_decoder();
+    }
+    if (one_of(20)) {
+        i = few[below(6)];
+        decoder.loco.cvs[i] = some_byte(), board_decoder.cvs[i] = some_byte();
+    }
+    if (first_or_one_of(20)) {
+        called(F_decoder_power_up);
+        dcc_decoder_power_up(&decoder);
+        add_decoder();
+        called(F_board_decoder_power_up);
+        dcc_board_decoder_power_up(&board_decoder);
+        add_board_decoder();
+    }
+    if (first_or_one_of(20)) {
+        called(F_decoder_set_main_only);
+        dcc_decoder_set_main_only(&decoder, main_only);
+        add_decoder();
+        called(F_board_decoder_set_main_only);
+        dcc_board_decoder_set_main_only(&board_decoder, main_only);
+        add_board_decoder();
+    }
+    if (first_or_one_of(10)) {
+        called(F_decoder_end_service);
+        dcc_decoder_end_service(&decoder);
+        add_decoder();
+        called(F_board_decoder_end_service);
+        dcc_board_decoder_end_service(&board_decoder);
+        add_board_decoder();
+    }
+    if (one_of(4)) call_hear(reset, 3);
+    if (one_of(2)) {
+        asked[0] = (uint8_t)(112 | (below(4) << 2));
+        asked[1] = few[below(6)], asked[2] = some_byte();
+        for (i = 0; i < 3; i++) sum ^= asked[i];
+        asked[3] = sum;
+        call_hear(asked, 4);
+    } else {
+        call_hear(frame, len);
+    }
+}
+
 static void add_small_loco(void) {
     uint8_t i;
     add(small_loco.address_kind), add(small_loco.speed_mode), add(small_loco.step), add(small_loco.forward);
@@ -480,6 +578,46 @@ static void call_reader(void) {
     add(value), add(reader.cv), add(reader.known), add(reader.value);
 }
 
+static void call_writer(void) {
+    dcc_frame question;
+    memset(&question, 7, sizeof question);
+    if (first_or_one_of(4)) {
+        uint16_t cv = one_of(4) ? (uint16_t)next() : (uint16_t)below(1027);
+        called(F_writer_new);
+        add(dcc_writer_new(&writer, cv, some_byte()));
+    }
+    if (one_of(8)) writer.cv = one_of(2) ? (uint16_t)next() : below(1027);
+    if (one_of(8)) writer.value = some_byte();
+    if (one_of(8)) writer.is_verifying = one_of(2);
+    called(F_writer_question);
+    add(dcc_writer_question(&writer, &question));
+    add_frame(&question);
+    called(F_writer_answer);
+    add(dcc_writer_answer(&writer, one_of(2)));
+    add(writer.cv), add(writer.value), add(writer.is_verifying);
+}
+
+/* Often a frame that a service packet has. */
+static void call_service_packet(void) {
+    uint8_t asked[8];
+    dcc_frame made;
+    memset(&made, 7, sizeof made);
+    memcpy(asked, frame, len);
+    if (one_of(2) && len == 4) asked[0] = (uint8_t)(112 | (asked[0] & 15)), asked[3] = asked[0] ^ asked[1] ^ asked[2];
+    called(F_service_read);
+    add(dcc_service_read(asked, len, &service_packet));
+    if (one_of(4)) service_packet.kind = one_of(4) ? some_byte() : (uint8_t)below(12);
+    if (one_of(4)) service_packet.cv = one_of(4) ? (uint16_t)next() : below(1027);
+    if (one_of(4)) service_packet.value = some_byte();
+    if (one_of(4)) service_packet.place = one_of(4) ? some_byte() : (uint8_t)below(9);
+    if (one_of(4)) service_packet.one = one_of(2);
+    called(F_service_frame);
+    add(dcc_service_frame(&service_packet, &made));
+    add_frame(&made);
+    add(service_packet.cv), add(service_packet.kind), add(service_packet.value), add(service_packet.place);
+    add(service_packet.one);
+}
+
 static void call_station(void) {
     dcc_frame sent;
     if (first_or_one_of(50)) {
@@ -511,7 +649,10 @@ int main(int argc, char **argv) {
         call_sender();
         call_decoders();
         call_small_decoders();
+        call_track_decoders();
         call_reader();
+        call_writer();
+        call_service_packet();
         call_station();
         is_first = false;
     }

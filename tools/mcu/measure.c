@@ -31,9 +31,14 @@ static dcc_board board;
 static dcc_service service;
 static dcc_small_loco small_loco;
 static dcc_small_service small_service;
+static dcc_decoder decoder;
+static dcc_board_decoder board_decoder;
+static dcc_answer answer;
 static uint16_t needed;
 static bool changed;
 static dcc_reader reader;
+static dcc_writer writer;
+static dcc_service_packet service_packet;
 static dcc_station station;
 static bool yes;
 static uint8_t value;
@@ -92,6 +97,16 @@ static void small_loco_hears(void) { dcc_small_loco_hears(&small_loco, GIVEN, &y
 static void new_small_service(void) { dcc_small_service_new(&small_service); }
 static void small_service_cv(void) { dcc_small_service_cv(&small_service, GIVEN, &needed); }
 static void apply_small_service(void) { dcc_small_service_apply(&small_service, GIVEN, &value, &changed, &yes); }
+static void new_decoder(void) { dcc_decoder_new(&decoder, cvs); }
+static void power_up_decoder(void) { dcc_decoder_power_up(&decoder); }
+static void hear_decoder(void) { dcc_decoder_hear(&decoder, GIVEN, &answer); }
+static void end_decoder(void) { dcc_decoder_end_service(&decoder); }
+static void keep_decoder(void) { dcc_decoder_set_main_only(&decoder, true); }
+static void new_board_decoder(void) { dcc_board_decoder_new(&board_decoder, cvs); }
+static void power_up_board_decoder(void) { dcc_board_decoder_power_up(&board_decoder); }
+static void hear_board_decoder(void) { dcc_board_decoder_hear(&board_decoder, GIVEN, &answer); }
+static void end_board_decoder(void) { dcc_board_decoder_end_service(&board_decoder); }
+static void keep_board_decoder(void) { dcc_board_decoder_set_main_only(&board_decoder, true); }
 static void new_reader(void) { dcc_reader_new(&reader, (uint16_t)(at + 1)); }
 static void ask_reader(void) {
     reader.known = (uint8_t)(at % 8);
@@ -101,6 +116,22 @@ static void answer_reader(void) {
     reader = (dcc_reader){.cv = 29, .known = (uint8_t)(at % 9)};
     dcc_reader_answer(&reader, true, &value);
 }
+static void new_writer(void) { dcc_writer_new(&writer, (uint16_t)(at + 1), (uint8_t)at); }
+static void ask_writer(void) {
+    writer.is_verifying = at % 2;
+    dcc_writer_question(&writer, &frame);
+}
+static void answer_writer(void) {
+    writer = (dcc_writer){.cv = 29, .is_verifying = at % 2};
+    dcc_writer_answer(&writer, true);
+}
+static void frame_service_packet(void) {
+    service_packet = (dcc_service_packet){
+        .cv = (uint16_t)(at + 1), .kind = (uint8_t)(DCC_CV_WRITE + at % 4), .value = (uint8_t)at,
+        .place = (uint8_t)(at % 8), .one = at % 3};
+    dcc_service_frame(&service_packet, &frame);
+}
+static void read_service_packet(void) { dcc_service_read(GIVEN, &service_packet); }
 static void new_station(void) { dcc_station_new(&station, 64, 128, 1); }
 static void command_station(void) { dcc_station_command(&station, GIVEN); }
 static void next_packet(void) { dcc_station_next(&station, &frame); }
@@ -306,13 +337,32 @@ int main(void) {
     measure("dcc_small_service_new", new_small_service, 100);
     measure("dcc_small_service_cv", small_service_cv, frame_count);
     measure("dcc_small_service_apply", apply_small_service, frame_count);
+    measure("dcc_decoder_new", new_decoder, 100);
+    measure("dcc_decoder_power_up", power_up_decoder, 100);
+    measure("dcc_decoder_hear", hear_decoder, frame_count);
+    measure("dcc_decoder_end_service", end_decoder, 100);
+    measure("dcc_decoder_set_main_only", keep_decoder, 100);
+    measure("dcc_board_decoder_new", new_board_decoder, 100);
+    measure("dcc_board_decoder_power_up", power_up_board_decoder, 100);
+    measure("dcc_board_decoder_hear", hear_board_decoder, frame_count);
+    measure("dcc_board_decoder_end_service", end_board_decoder, 100);
+    measure("dcc_board_decoder_set_main_only", keep_board_decoder, 100);
     measure("dcc_reader_new", new_reader, 1000);
     measure("dcc_reader_question", ask_reader, 1000);
     measure("dcc_reader_answer", answer_reader, 1000);
+    measure("dcc_writer_new", new_writer, 1000);
+    measure("dcc_writer_question", ask_writer, 1000);
+    measure("dcc_writer_answer", answer_writer, 1000);
+    measure("dcc_service_frame", frame_service_packet, 1000);
     take_programming_track();
     new_service();
     measure("dcc_service_apply:inside", apply_service, frame_count);
     new_small_service();
     measure("dcc_small_service_apply:inside", apply_small_service, frame_count);
+    new_decoder();
+    measure("dcc_decoder_hear:inside", hear_decoder, frame_count);
+    new_board_decoder();
+    measure("dcc_board_decoder_hear:inside", hear_board_decoder, frame_count);
+    measure("dcc_service_read", read_service_packet, frame_count);
     return 0;
 }

@@ -1,6 +1,10 @@
 #include "DccAccessory.h"
 
+#include "DccTurnouts.h"
+
 __attribute__((weak)) void notifyDccAccTurnoutBoard(uint16_t, uint8_t, uint8_t, uint8_t) {}
+__attribute__((weak)) void notifyDccAccTurnoutOutput(uint16_t, uint8_t, uint8_t) {}
+__attribute__((weak)) void notifyDccAccOutputChange(uint16_t, uint8_t, bool) {}
 __attribute__((weak)) void notifyDccSigOutputState(uint16_t, uint8_t) {}
 
 bool DccAccessory::begin(uint16_t number, uint32_t now) {
@@ -25,8 +29,12 @@ void dccHearBoard(dcc_board &board, const dcc_frame &frame, const dcc_packet &pa
     dcc_board before = board;
     if (dcc_board_apply(&board, frame.bytes, frame.len) != 0) return;
     for (uint8_t n = 0; n < 8; n++) {
-        bool isOn = board.outs >> n & 1, isNamed = packet.kind == DCC_ACCESSORY && packet.output == n;
-        if (isNamed || isOn != (before.outs >> n & 1)) notifyDccAccTurnoutBoard(board.number, n / 2, n % 2, isOn);
+        const bool isOn = board.outs >> n & 1, isChanged = isOn != (before.outs >> n & 1);
+        const bool isNamed = packet.kind == DCC_ACCESSORY && packet.output == n;
+        if (!isNamed && !isChanged) continue;
+        notifyDccAccTurnoutBoard(board.number, n / 2, n % 2, isOn);
+        notifyDccAccTurnoutOutput(dccTurnout(board.number, n), n % 2, isOn);
+        if (isChanged) notifyDccAccOutputChange(board.number, n, isOn);
     }
     for (uint8_t n = 0; n < 4 && packet.kind == DCC_SIGNAL; n++) {
         const bool is_named = packet.address == 2047 || packet.address % 4 == n;

@@ -36,6 +36,14 @@ void dccHearBoard(dcc_board &board, const dcc_frame &frame, const dcc_packet &pa
  * the pair, 0 to 3, the output of the pair, and whether it is on. */
 void notifyDccAccTurnoutBoard(uint16_t board, uint8_t pair, uint8_t direction, uint8_t power);
 
+/* Comes with each notifyDccAccTurnoutBoard. The address is the number of the turnout, counted from board 1, as
+ * dccTurnout(board, 2 * pair + direction) returns it: 1 to 2040, and 0 for board 0. */
+void notifyDccAccTurnoutOutput(uint16_t address, uint8_t direction, uint8_t power);
+
+/* An output of the board, 0 to 7, has changed. A packet that repeats the state of an output causes no call, so the
+ * sketch can toggle something here. NmraDcc has no such callback. */
+void notifyDccAccOutputChange(uint16_t board, uint8_t output, bool on);
+
 /* A packet named this signal of the board, also if the signal keeps its aspect. */
 void notifyDccSigOutputState(uint16_t address, uint8_t aspect);
 

@@ -4,8 +4,6 @@
 
 __attribute__((weak)) uint8_t notifyCVRead(uint16_t) { return 0; }
 __attribute__((weak)) uint8_t notifyCVWrite(uint16_t, uint8_t) { return 0; }
-__attribute__((weak)) void notifyCVAck() {}
-__attribute__((weak)) void notifyServiceMode(bool) {}
 
 void DccSmallDecoder::begin(uint32_t now) {
     dcc_small_service_new(&service);
@@ -34,6 +32,10 @@ void DccSmallDecoder::process() {
         }
         hearLoco(seen.frame, packet);
     }
+    if (!service.in_service || !timer.isOver()) return;
+    dcc_small_service_new(&service);
+    notifyServiceMode(false);
+    if (isProgrammed) powerUp(); /* the locomotive has stopped since the reset, so no value changes */
 }
 
 /* Takes a frame of the programming track. dcc_small_service_cv writes the number of the accessed CV, or 0. */
@@ -44,6 +46,7 @@ void DccSmallDecoder::hearService(const dcc_frame &frame) {
     uint8_t value = cv > 0 ? notifyCVRead(cv) : 0;
     if (dcc_small_service_apply(&service, frame.bytes, frame.len, &value, &isChanged, &isAcknowledged) != 0) return;
     if (wasInService != service.in_service) notifyServiceMode(service.in_service);
+    if (service.in_service) timer.restart();
     if (isAcknowledged) notifyCVAck();
     if (!isChanged) return;
     isProgrammed = true;

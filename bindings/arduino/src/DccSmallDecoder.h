@@ -1,6 +1,6 @@
 /* A decoder of a locomotive whose CVs the sketch stores, for example in EEPROM. The decoder fits an Uno. A station can
  * program the decoder on the main track and on the programming track. The decoder calls the callbacks below, which are
- * named as in NmraDcc, and notifyDccSpeed, notifyDccFunc, notifyDccState and notifyDccReset of DccDecoder.h. */
+ * named as in NmraDcc, and those of DccDecoder.h except notifyCVChange. */
 #ifndef DCC_SMALL_DECODER_H
 #define DCC_SMALL_DECODER_H
 
@@ -16,7 +16,8 @@ public:
     void edge(uint32_t now) { track.edge(now); }
 
     /* Call it in loop(). Applies the packets that were found, and calls the callbacks. In service mode, the locomotive
-     * hears only the reset. If a CV changed in service mode, the locomotive powers up when service mode ends. */
+     * hears only the reset. Ends service mode if no packet of service mode came for 20 milliseconds. If a CV changed in
+     * service mode, the locomotive powers up when service mode ends. */
     void process();
 
     /* The state of the decoders (dcc.h). */
@@ -28,6 +29,7 @@ private:
     void hearService(const dcc_frame &frame);
     void hearLoco(const dcc_frame &frame, const dcc_packet &packet);
     DccTrack track;
+    DccServiceTimer timer;
     bool isProgrammed;
 };
 
@@ -38,11 +40,5 @@ uint8_t notifyCVRead(uint16_t cv);
 
 /* A packet changed a CV. The callback stores the value. The decoder ignores the value that the callback returns. */
 uint8_t notifyCVWrite(uint16_t cv, uint8_t value);
-
-/* The decoder acknowledges a packet of the programming track: draw 60 mA from the track for 6 milliseconds. */
-void notifyCVAck();
-
-/* Service mode begins or ends. */
-void notifyServiceMode(bool isInService);
 
 #endif

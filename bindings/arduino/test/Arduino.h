@@ -11,6 +11,7 @@ enum { CHANGE = 1, FALLING, RISING };
 enum { DEC = 10, HEX = 16 };
 
 uint32_t micros();
+unsigned long millis();
 void pinMode(uint8_t pin, uint8_t mode);
 void digitalWrite(uint8_t pin, uint8_t level);
 void analogWrite(uint8_t pin, int value);

@@ -14,6 +14,7 @@ static bool isOutput[256];
 static uint8_t level;
 
 uint32_t micros() { return now; }
+unsigned long millis() { return now / 1000; }
 void pinMode(uint8_t pin, uint8_t mode) { isOutput[pin] = mode == OUTPUT; }
 
 void digitalWrite(uint8_t pin, uint8_t to) {

@@ -3,13 +3,19 @@
  * --station`. */
 #include "DccAccessory.h"
 #include "DccDecoder.h"
+#include "DccSmallDecoder.h"
 #include "DccSniffer.h"
 #include "DccStation.h"
+#include "DccTurnouts.h"
 #include <stdio.h>
 #include <stdlib.h>
 #include <string.h>
 
 #define HOLDS(condition) holds(condition, #condition, __LINE__)
+
+/* The milliseconds of the clock. */
+static unsigned long clockMs;
+unsigned long millis() { return clockMs; }
 
 static int wrong = 0;
 
@@ -177,11 +183,27 @@ static void longHalfBitsAreLong() {
     HOLDS(isNext(track, "540 refused H4"));
 }
 
-/* The calls of a decoder that are counted here. */
-static int resets, turnouts, signals;
+/* The calls of a decoder that are counted here, and the last address of an output. */
+static int resets, turnouts, signals, outputs, outputChanges, acks, begun, ended;
+static uint16_t lastAddress;
 void notifyDccReset() { resets++; }
 void notifyDccAccTurnoutBoard(uint16_t, uint8_t, uint8_t, uint8_t) { turnouts++; }
+void notifyDccAccTurnoutOutput(uint16_t address, uint8_t, uint8_t) { outputs++, lastAddress = address; }
+void notifyDccAccOutputChange(uint16_t, uint8_t, bool) { outputChanges++; }
 void notifyDccSigOutputState(uint16_t, uint8_t) { signals++; }
+void notifyCVAck() { acks++; }
+void notifyServiceMode(bool isInService) { isInService ? begun++ : ended++; }
+
+/* The store of a DccSmallDecoder. */
+static uint8_t stored[DCC_CVS];
+uint8_t notifyCVRead(uint16_t cv) { return stored[cv - 1]; }
+uint8_t notifyCVWrite(uint16_t cv, uint8_t value) { return stored[cv - 1] = value; }
+
+/* Gives a packet line to a decoder. */
+template <typename T> static void hear(T &decoder, const char *line) {
+    play(decoder, line);
+    decoder.process();
+}
 
 static void aBoardIsOneOf0To510() {
     static DccDecoder decoder;
@@ -193,7 +215,8 @@ static void aBoardIsOneOf0To510() {
     for (const auto &row : rows) {
         resets = turnouts = signals = 0;
         decoder.begin(cvs, now, row.number);
-        HOLDS(decoder.loco.address_kind == DCC_SHORT && decoder.loco.address == 3 && decoder.loco.speed_mode == 0);
+        const dcc_loco &loco = decoder.state.loco;
+        HOLDS(loco.address_kind == DCC_SHORT && loco.address == 3 && loco.speed_mode == 0);
         const char *lines[] = {"accessory 511 0 on", "accessory 510 0 on", "accessory 511 2 on",
                                "accessory 511 5 on", "signal 2047 5",      "signal 2041 5"};
         for (const char *line : lines) {
@@ -212,9 +235,142 @@ static void aBoardIsOneOf0To510() {
     /* begun anew, it is powered up */
     play(decoder, "loco s3 functions 0 1");
     decoder.process();
-    HOLDS(decoder.loco.functions[0] == 2);
+    HOLDS(decoder.state.loco.functions[0] == 2);
     decoder.begin(cvs, now);
-    HOLDS(decoder.loco.functions[0] == 0);
+    HOLDS(decoder.state.loco.functions[0] == 0);
+}
+
+/* A repeated packet is named again, but changes no output. */
+static void anOutputChangesOnce() {
+    static DccAccessory decoder;
+    const struct {
+        uint16_t board, address;
+        const char *line;
+    } rows[] = {{1, 1, "accessory 1 0 on"},     {1, 4, "accessory 1 7 on"},       {0, 0, "accessory 0 7 on"},
+                {40, 158, "accessory 40 2 on"}, {510, 2040, "accessory 510 6 on"}, {510, 2037, "accessory 511 0 on"}};
+    for (const auto &row : rows) {
+        turnouts = outputs = outputChanges = 0;
+        HOLDS(decoder.begin(row.board, now));
+        for (int copy = 0; copy < 3; copy++) hear(decoder, row.line);
+        HOLDS(turnouts == 3 && outputs == 3 && outputChanges == 1 && lastAddress == row.address);
+        hear(decoder, "loco all reset");
+        HOLDS(turnouts == 4 && outputs == 4 && outputChanges == 2);
+        hear(decoder, "loco all reset");
+        HOLDS(turnouts == 4 && outputs == 4 && outputChanges == 2);
+    }
+}
+
+static uint16_t addressOf(const DccDecoder &decoder) { return decoder.state.loco.address; }
+static uint16_t addressOf(const DccSmallDecoder &decoder) { return decoder.loco.address; }
+static bool isInService(const DccDecoder &decoder) { return decoder.state.service.in_service; }
+static bool isInService(const DccSmallDecoder &decoder) { return decoder.service.in_service; }
+
+/* A decoder with the address 3 leaves service mode if no packet of service mode comes for 20 milliseconds. It then has
+ * the address 5. */
+template <typename T> static void serviceModeEnds(T &decoder) {
+    begun = ended = acks = 0;
+    clockMs = UINT32_MAX - 40; /* millis() wraps after 49 days */
+    decoder.process();
+    HOLDS(begun == 0 && ended == 0 && addressOf(decoder) == 3);
+    hear(decoder, "loco all reset");
+    HOLDS(begun == 1 && isInService(decoder));
+    for (int copy = 1; copy <= 4; copy++) {
+        clockMs = (uint32_t)(clockMs + 20);
+        decoder.process();
+        HOLDS(ended == 0 && isInService(decoder));
+        hear(decoder, "frame 7c000579");
+        HOLDS(acks == copy / 2);
+        if (copy == 2) hear(decoder, "loco all reset");
+    }
+    HOLDS(begun == 1 && addressOf(decoder) == 3);
+    /* a refused frame is no packet */
+    clockMs += 15;
+    for (int i = 0; i < 40; i++) decoder.halfBit(58);
+    for (int i = 0; i < 52; i++) decoder.halfBit(100);
+    for (int i = 0; i < 4; i++) decoder.halfBit(58);
+    decoder.process();
+    clockMs += 5;
+    decoder.process();
+    HOLDS(ended == 0 && isInService(decoder));
+    clockMs += 1;
+    decoder.process();
+    HOLDS(begun == 1 && ended == 1 && !isInService(decoder) && addressOf(decoder) == 5);
+    clockMs += 100;
+    decoder.process();
+    HOLDS(begun == 1 && ended == 1);
+    /* the packets of service mode do not count now, and each later reset begins service mode again */
+    hear(decoder, "frame 7c00037f");
+    hear(decoder, "frame 7c00037f");
+    HOLDS(acks == 2 && addressOf(decoder) == 5);
+    hear(decoder, "loco all reset");
+    HOLDS(begun == 2 && isInService(decoder));
+    /* packets that wait count when they are heard */
+    clockMs += 500;
+    hear(decoder, "loco all reset");
+    HOLDS(begun == 2 && ended == 1 && isInService(decoder));
+    /* without a change of a CV, the decoder keeps its values */
+    clockMs += 21;
+    decoder.process();
+    HOLDS(ended == 2 && addressOf(decoder) == 5);
+}
+
+static void serviceModeEndsAfter20Milliseconds() {
+    static DccDecoder decoder;
+    static DccSmallDecoder small;
+    static const uint8_t cvs[DCC_CVS] = {3};
+    decoder.begin(cvs, now);
+    serviceModeEnds(decoder);
+    memcpy(stored, cvs, sizeof stored);
+    small.begin(now);
+    serviceModeEnds(small);
+    HOLDS(stored[0] == 5 && decoder.state.loco.cvs[0] == 5);
+}
+
+/* CVs in their place are those of the decoder. */
+static void aDecoderPowersUpWithItsCvs() {
+    static DccDecoder decoder;
+    decoder.state.loco.cvs[0] = 3;
+    turnouts = 0;
+    decoder.powerUp(now, 12);
+    HOLDS(addressOf(decoder) == 3 && decoder.board.number == 12);
+    hear(decoder, "accessory 12 5 on");
+    hear(decoder, "loco s3 functions 0 1");
+    HOLDS(turnouts == 1 && decoder.state.loco.functions[0] == 2);
+    decoder.state.loco.cvs[0] = 4;
+    decoder.powerUp(now);
+    HOLDS(addressOf(decoder) == 4 && decoder.state.loco.functions[0] == 0 && decoder.state.loco.cvs[0] == 4);
+    hear(decoder, "accessory 12 5 on");
+    HOLDS(turnouts == 1);
+}
+
+static void aDecoderStaysOnTheMainTrack() {
+    static DccDecoder decoder;
+    static const uint8_t cvs[DCC_CVS] = {3};
+    begun = ended = acks = resets = 0;
+    decoder.begin(cvs, now);
+    decoder.setMainOnly(true);
+    for (int copy = 0; copy < 2; copy++) {
+        hear(decoder, "loco all reset");
+        hear(decoder, "frame 7c3f85c6");
+        hear(decoder, "frame 7c3f85c6");
+    }
+    HOLDS(begun == 0 && ended == 0 && acks == 0 && resets == 2 && decoder.state.loco.cvs[63] == 0);
+    decoder.setMainOnly(false);
+    HOLDS(begun == 0 && ended == 0);
+    hear(decoder, "loco all reset");
+    hear(decoder, "frame 7c000579");
+    hear(decoder, "frame 7c000579");
+    HOLDS(begun == 1 && ended == 0 && acks == 1 && addressOf(decoder) == 3);
+    decoder.setMainOnly(false);
+    HOLDS(ended == 0 && isInService(decoder));
+    decoder.setMainOnly(true);
+    HOLDS(begun == 1 && ended == 1 && addressOf(decoder) == 5 && !isInService(decoder));
+    decoder.setMainOnly(true);
+    HOLDS(ended == 1);
+    /* begun anew, it hears both tracks */
+    decoder.begin(cvs, now);
+    hear(decoder, "loco all reset");
+    HOLDS(begun == 2);
 }
 
 static bool isRefused(DccRefusal refusal, char letter, uint8_t number) {
@@ -324,6 +480,29 @@ static void anAccessoryDecoderIsOneOf0To510() {
     }
 }
 
+static void turnoutsAreCountedFromBoard1Or0() {
+    for (uint8_t first = 0; first <= 1; first++) {
+        uint16_t number = 0, found = 7;
+        uint8_t pair = 7;
+        for (uint16_t board = first; board <= 510; board++) {
+            for (uint8_t output = 0; output < 8; output++) {
+                number += output % 2 == 0;
+                HOLDS(dccTurnout(board, output, first) == number);
+                HOLDS(dccTurnoutPair(number, found, pair, first) && found == board && pair == output / 2);
+            }
+            HOLDS(dccTurnout(board, 8, first) == 0);
+        }
+        HOLDS(number == (first ? 2040 : 2044) && dccTurnout(511, 0, first) == 0 && dccTurnout(65535, 0, first) == 0);
+        HOLDS(!dccTurnoutPair(0, found, pair, first) && !dccTurnoutPair(number + 1, found, pair, first));
+        HOLDS(found == 510 && pair == 3);
+        HOLDS(!dccTurnoutPair(1, found, pair, 2) && dccTurnout(40, 2, 2) == 0);
+    }
+    uint16_t board;
+    uint8_t pair;
+    HOLDS(dccTurnout(40, 2) == 158 && dccTurnout(40, 2, 0) == 162 && dccTurnout(0, 0) == 0);
+    HOLDS(dccTurnoutPair(158, board, pair) && board == 40 && pair == 1);
+}
+
 static void aLateLoopGivesIdlePackets() {
     static DccStation station;
     HOLDS(station.begin(4, 4, 1));
@@ -374,10 +553,15 @@ int main(int argc, char **) {
     aTrackIsBegunAnew();
     longHalfBitsAreLong();
     aBoardIsOneOf0To510();
+    anOutputChangesOnce();
+    serviceModeEndsAfter20Milliseconds();
+    aDecoderPowersUpWithItsCvs();
+    aDecoderStaysOnTheMainTrack();
     anAccessoryDecoderIsOneOf0To510();
     aStationIsMadeWithinItsLimits();
     aStationHasItsEntries();
     aPacketIsFoundBeforeItIsSent();
     aLateLoopGivesIdlePackets();
+    turnoutsAreCountedFromBoard1Or0();
     return wrong;
 }

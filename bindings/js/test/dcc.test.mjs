@@ -133,6 +133,41 @@ test('the fields of packets are those of their lines', () => {
   assert.equal(kinds.size, 13, [...kinds].join());
 });
 
+test('turnouts are those of show', () => {
+  const boards = [...Array(511).keys()];
+  const outputs = [...boards, 511].flatMap((board) => [...Array(8).keys()].map((output) => [board, output]));
+  const capture = written(['encode'], outputs.map(([board, output]) => `accessory ${board} ${output} on\n`).join(''));
+  const shown = written(['show', '--plain'], capture).trim().split('\n').map((it) => /turnout (.*)/.exec(it)?.[1]);
+  const told = (call, ...words) => {
+    try {
+      return String(call(...words));
+    } catch (error) {
+      return error instanceof RangeError ? undefined : error;
+    }
+  };
+  outputs.forEach(([board, output], n) => {
+    assert.equal(told(dcc.turnout, board, output), shown[n]);
+    assert.equal(told(dcc.turnout, board, output, 0), board === 511 ? undefined : String((n >> 1) + 1));
+  });
+  assert.deepEqual([dcc.turnout(40, 2), dcc.turnout(40, 2, 0)], [158, 162]);
+  for (const [first, most] of [[1, 2040], [0, 2044]]) {
+    for (let number = 1; number <= most; number += 1) {
+      const { board, pair } = dcc.turnoutPair(number, first);
+      const sides = [0, 1].map((side) => dcc.turnout(board, 2 * pair + side, first));
+      assert.deepEqual(sides, [number, number]);
+    }
+    for (const number of [0, most + 1]) assert.throws(() => dcc.turnoutPair(number, first), RangeError);
+    for (const output of [-1, 8]) assert.throws(() => dcc.turnout(510, output, first), RangeError);
+  }
+  assert.deepEqual(dcc.turnoutPair(158), { board: 40, pair: 1 });
+  for (const first of [-1, 2]) {
+    assert.throws(() => dcc.turnout(40, 2, first), RangeError);
+    assert.throws(() => dcc.turnoutPair(158, first), RangeError);
+  }
+  assert.throws(() => dcc.turnout('40', 2), TypeError);
+  assert.throws(() => dcc.turnoutPair(1.5), TypeError);
+});
+
 test('half-bits have their timing', () => {
   const sent = rows.map((it) => `${dcc.halves(dcc.frame(it), { preamble: 20 }).join(' ')}\n`).join('');
   assert.equal(sent, written(['encode', '--service'], `${rows.join('\n')}\n`));

@@ -9,6 +9,10 @@ use crate::reader::Reader;
 use crate::sending::{Halves, Timing};
 use crate::service::Service;
 use crate::station::Station;
+use crate::track::ServicePart;
+use crate::track_board::TrackBoard;
+use crate::track_loco::TrackLoco;
+use crate::writer::Writer;
 use core::mem::size_of;
 
 /// `dcc_outcome`.
@@ -137,6 +141,14 @@ pub(crate) struct Numbers {
     pub aspect: u8,
 }
 
+/// `dcc_answer`.
+#[repr(C)]
+#[derive(Default)]
+pub(crate) struct Heard {
+    pub changed: u16,
+    pub acknowledged: bool,
+}
+
 extern "C" {
     pub(crate) fn dcc_framer_new() -> Framer;
     pub(crate) fn dcc_push(framer: *mut Framer, us: u16, outcome: *mut Outcome) -> u8;
@@ -193,9 +205,30 @@ extern "C" {
         len: u64,
         acknowledged: *mut bool,
     ) -> u8;
+    pub(crate) fn dcc_decoder_new(decoder: *mut TrackLoco, cvs: *const u8);
+    pub(crate) fn dcc_decoder_hear(
+        decoder: *mut TrackLoco,
+        frame: *const u8,
+        len: u64,
+        answer: *mut Heard,
+    ) -> u8;
+    pub(crate) fn dcc_decoder_end_service(decoder: *mut TrackLoco);
+    pub(crate) fn dcc_decoder_set_main_only(decoder: *mut TrackLoco, main_only: bool);
+    pub(crate) fn dcc_board_decoder_new(decoder: *mut TrackBoard, cvs: *const u8);
+    pub(crate) fn dcc_board_decoder_hear(
+        decoder: *mut TrackBoard,
+        frame: *const u8,
+        len: u64,
+        answer: *mut Heard,
+    ) -> u8;
+    pub(crate) fn dcc_board_decoder_end_service(decoder: *mut TrackBoard);
+    pub(crate) fn dcc_board_decoder_set_main_only(decoder: *mut TrackBoard, main_only: bool);
     pub(crate) fn dcc_reader_new(reader: *mut Reader, cv: u16) -> u8;
     pub(crate) fn dcc_reader_question(reader: *const Reader, question: *mut Frame) -> u8;
     pub(crate) fn dcc_reader_answer(reader: *mut Reader, yes: bool, value: *mut u8) -> u8;
+    pub(crate) fn dcc_writer_new(writer: *mut Writer, cv: u16, value: u8) -> u8;
+    pub(crate) fn dcc_writer_question(writer: *const Writer, question: *mut Frame) -> u8;
+    pub(crate) fn dcc_writer_answer(writer: *mut Writer, yes: bool) -> u8;
     pub(crate) fn dcc_station_new(station: *mut Station, queue: u8, slots: u8, repeats: u8) -> u8;
     pub(crate) fn dcc_station_command(station: *mut Station, frame: *const u8, len: u64) -> u8;
     pub(crate) fn dcc_station_next(station: *mut Station, frame: *mut Frame);
@@ -217,5 +250,10 @@ const _: () = assert!(size_of::<Halves>() == 16);
 const _: () = assert!(size_of::<Loco>() == 1072);
 const _: () = assert!(size_of::<Board>() == 12);
 const _: () = assert!(size_of::<Service>() == 1032);
+const _: () = assert!(size_of::<ServicePart>() == 8);
+const _: () = assert!(size_of::<Heard>() == 4);
+const _: () = assert!(size_of::<TrackLoco>() == 1088);
+const _: () = assert!(size_of::<TrackBoard>() == 1046);
 const _: () = assert!(size_of::<Reader>() == 4);
+const _: () = assert!(size_of::<Writer>() == 4);
 const _: () = assert!(size_of::<Station>() == 1800);

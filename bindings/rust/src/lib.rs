@@ -36,6 +36,11 @@ mod reader;
 mod sending;
 mod service;
 mod station;
+mod track;
+mod track_board;
+mod track_loco;
+mod turnouts;
+mod writer;
 
 pub use board::Board;
 pub use frame::{Frame, FrameFault, LineFault};
@@ -48,6 +53,11 @@ pub use reader::{Reader, Reading};
 pub use sending::{Halves, Timing, TimingFault};
 pub use service::Service;
 pub use station::{CommandFault, Station};
+pub use track::Answer;
+pub use track_board::TrackBoard;
+pub use track_loco::TrackLoco;
+pub use turnouts::Turnouts;
+pub use writer::{Writer, Writing};
 
 /// The values of the CVs of a decoder, CV1 first.
 pub type Cvs = [u8; 1024];

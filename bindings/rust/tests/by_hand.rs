@@ -4,7 +4,8 @@ mod common;
 use common::{cvs, dcc, frame, hex, output, program, rows, Fleet};
 use dcc::{
     Address, Board, CommandFault, Frame, FrameFault, Framer, LineFault, Loco, Meter, MeterIsFull,
-    Reader, Reading, Refusal, Seen, Service, Speed, Station, Tally, Timing, TimingFault,
+    Reader, Reading, Refusal, Seen, Service, Speed, Station, Tally, Timing, TimingFault, Turnouts,
+    Writer, Writing,
 };
 use std::fmt::Write as _;
 use std::process::Command;
@@ -186,6 +187,48 @@ fn a_reading_stays_at_its_ninth_question() {
     assert_eq!(reader.answer(true), Reading::Value(0xA5));
 }
 
+/// The questions and answers of a writing, and its state at the end.
+fn write(cv: u16, value: u8, decoder: &mut Service) -> (String, Writing) {
+    let (mut writer, mut text) = (Writer::new(cv, value).unwrap(), String::new());
+    let reset = Frame::new(&[0, 0, 0]).unwrap();
+    loop {
+        let question = writer.question();
+        let copies = [reset; 3].into_iter().chain([question; 5]);
+        let yes = copies.fold(false, |any, frame| decoder.apply(&frame) | any);
+        write!(text, "{question:x} {} ", if yes { "yes" } else { "no" }).unwrap();
+        match writer.answer(yes) {
+            Writing::More => (),
+            end => return (text, end),
+        }
+    }
+}
+
+#[test]
+fn a_variable_is_written_by_two_questions() {
+    let mut decoder = Service::new(&cvs(&[(1, 3), (8, 200)]));
+    let done = "7c000a76 yes 74000a7e yes ".to_owned();
+    assert_eq!(write(1, 10, &mut decoder), (done, Writing::Done));
+    let failed = "7c07c9b2 no 7407c9ba no ".to_owned();
+    assert_eq!(write(8, 201, &mut decoder), (failed, Writing::Failed));
+    let there = "7c07c8b3 no 7407c8bb yes ".to_owned();
+    assert_eq!(write(8, 200, &mut decoder), (there, Writing::Done));
+    assert_eq!((decoder.cvs()[0], decoder.cvs()[7]), (10, 200));
+    assert!(decoder.cvs()[8..].iter().all(|it| *it == 0));
+}
+
+#[test]
+fn a_writing_stays_at_its_second_question() {
+    for yes in [false, true] {
+        let mut writer = Writer::new(1024, 0xA5).unwrap();
+        assert_eq!(format!("{:x}", writer.question()), "7fffa525");
+        assert_eq!(writer.answer(yes), Writing::More);
+        assert_eq!(format!("{:x}", writer.question()), "77ffa52d");
+        assert_eq!(writer.answer(false), Writing::Failed);
+        assert_eq!(format!("{:x}", writer.question()), "77ffa52d");
+        assert_eq!(writer.answer(true), Writing::Done);
+    }
+}
+
 #[test]
 fn a_station_counts() {
     let mut station = Station::new(2, 4, 2).unwrap();
@@ -222,6 +265,33 @@ fn a_station_counts() {
     assert_eq!(format!("{full:?}"), "Station { waiting: 64, entries: 0 }");
     full.send_next();
     assert_eq!(state(&full), (64, 1));
+}
+
+#[test]
+fn turnouts_are_counted_from_board_1_or_0() {
+    for (count, first, most) in [
+        (Turnouts::FromBoard1, 1, 2040),
+        (Turnouts::FromBoard0, 0, 2044),
+    ] {
+        let mut number = 0;
+        for board in first..=510 {
+            for output in 0..8 {
+                number += u16::from(output % 2 == 0);
+                assert_eq!(count.number(board, output), Some(number));
+                assert_eq!(count.pair(number), Some((board, output / 2)));
+            }
+        }
+        assert_eq!(number, most);
+        for number in [0, most + 1, 65535] {
+            assert_eq!(count.pair(number), None);
+        }
+        for (board, output) in [(511, 0), (65535, 0), (first, 8), (510, 255)] {
+            assert_eq!(count.number(board, output), None);
+        }
+    }
+    assert_eq!(Turnouts::FromBoard1.number(0, 0), None);
+    let numbers = [Turnouts::FromBoard1, Turnouts::FromBoard0].map(|it| it.number(40, 2));
+    assert_eq!(numbers, [Some(158), Some(162)]);
 }
 
 #[test]
@@ -361,6 +431,7 @@ fn what_is_past_its_limits_is_not_made() {
     assert!(Station::new(64, 128, 8).is_some() && Station::new(1, 1, 1).is_some());
     assert!(Board::new(511).is_none() && Board::new(510).is_some());
     assert!(Reader::new(0).is_none() && Reader::new(1025).is_none());
+    assert!(Writer::new(0, 1).is_none() && Writer::new(1025, 1).is_none());
     assert_eq!(Timing::new(54, 100, 100, 14), Err(TimingFault::One));
     assert_eq!(Timing::new(62, 94, 100, 13), Err(TimingFault::One));
     assert_eq!(Timing::new(58, 9900, 2101, 14), Err(TimingFault::Zero));

@@ -8,5 +8,11 @@ pub mod HeardLemmas
 pub mod PossibleNumbers
 pub mod SenderLemmas
 pub mod ReaderLemmas
+pub mod ServicePacketLemmas
 mod KeptPacketLemmas
 mod WorkedExamples
+pub mod TrackPartLemmas
+pub mod PossibleLocoLemmas
+pub mod PossibleBoardLemmas
+pub mod DecoderLemmas
+pub mod BoardDecoderLemmas

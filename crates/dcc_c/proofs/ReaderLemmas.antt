@@ -13,7 +13,7 @@ use Rattle.dcc_service.proofs.ReaderLemmas.{counted, valued}
 use Rattle.dcc_c.specs.declared.reader.DccReader.{DccReader}
 use Rattle.dcc_c.specs.Readers.{IsReading}
 
-cv_back : (number : ℕ) (cv : CvNumber) → number ≡ cv.number → cv_of number ≡ Ok cv
+pub cv_back : (number : ℕ) (cv : CvNumber) → number ≡ cv.number → cv_of number ≡ Ok cv
 cv_back number cv e =
     rw e (from_one_to_ok 1024 cv.number faults.CvNumber (λ h. record { number = cv.number; in_range = h }) cv.in_range)
 

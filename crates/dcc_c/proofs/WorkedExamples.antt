@@ -1,10 +1,15 @@
--- Zeros in a C program's memory are a station that has no room.
-use Rattle.std.proofs.Common.{◌≡◌, refl, inl, arith, replicate}
+-- Zeros in a C program's memory are a station that has no room. Service packets as fields.
+use Rattle.std.proofs.Common.{◌≡◌, ℕ, true, refl, inl, arith, replicate, lit≤}
+use Rattle.dcc_packet.specs.declared.cv.BitPlace.{BitPlace}
+use Rattle.dcc_packet.specs.declared.cv.CvNumber.{CvNumber}
 use Rattle.dcc_packet.specs.declared.packet.Packet.TheVariants.{Idle}
 use Rattle.dcc_station.specs.Sending.{idle_sending}
+use Rattle.dcc_service.specs.declared.packet.ServicePacket.TheVariants.{BitWrite}
+use Rattle.dcc_c.specs.declared.service_packet.DccServicePacket.{DccServicePacket}
 use Rattle.dcc_c.specs.declared.station_ring.DccRing.{DccRing}
 use Rattle.dcc_c.specs.declared.station_numbers.DccStation.{DccStation}
 use Rattle.dcc_c.specs.KeptPacketLaw.{IsKeptPacket}
+use Rattle.dcc_c.specs.ServicePackets.{service_packet_of, service_packet_answer, service_packet_numbers}
 use Rattle.dcc_c.specs.Stations.{sending_of}
 
 zeros_keep_idle : IsKeptPacket (record { frame = record { len = 0; bytes = replicate 6 0 }; says = (Idle, refl) })
@@ -30,3 +35,25 @@ zeros = record {
 
 zeros_have_no_room : sending_of zeros ≡ idle_sending 0 0 0
 zeros_have_no_room = refl
+
+abbrev fields : ℕ → ℕ → ℕ → DccServicePacket
+fields kind cv place = record { cv = cv; kind = kind; value = 10; place = place; one = true }
+
+abbrev cv1024 : CvNumber
+cv1024 = record { number = 1024; in_range = (lit≤ tt, lit≤ tt) }
+
+abbrev place5 : BitPlace
+place5 = record { place = 5; in_range = lit≤ tt }
+
+record Rows : Type 0 where
+  bit_write_of_cv1024 : service_packet_numbers (BitWrite cv1024 place5 true)
+      ≡ record { cv = 1024; kind = 8; value = 0; place = 5; one = true }
+  kind_5_is_p10 : service_packet_answer (service_packet_of (fields 5 0 8)) ≡ 10
+  kind_10_is_p10 : service_packet_answer (service_packet_of (fields 10 1 0)) ≡ 10
+
+rows : Rows
+rows = record {
+  bit_write_of_cv1024 = refl;
+  kind_5_is_p10 = refl;
+  kind_10_is_p10 = refl;
+}

@@ -23,7 +23,7 @@ some_behind : (bytes : List ℕ) → with_error_byte bytes ≡ [] → ⊥
 some_behind [] e = cc
 some_behind (byte ∷ bytes) e = cc
 
-some_bytes : (packet : Packet) → spelling packet ≡ [] → ⊥
+pub some_bytes : (packet : Packet) → spelling packet ≡ [] → ⊥
 some_bytes Idle e = cc
 some_bytes (Loco to what) e = some_behind (loco_bytes to what) e
 some_bytes (Accessory board output on) e = some_behind (accessory_bytes board output on) e

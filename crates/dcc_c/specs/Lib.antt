@@ -12,8 +12,15 @@ pub mod Services
 pub mod Timings
 pub mod Senders
 pub mod Readers
+pub mod Writers
+pub mod ServicePackets
 pub mod KeptPackets
 pub mod KeptPacketLaw
 pub mod Stations
+pub mod HeldRegisters
+pub mod TrackAnswers
+pub mod Decoders
+pub mod HeldBoards
+pub mod BoardDecoders
 pub mod Inner
 pub mod Statistics

@@ -159,7 +159,7 @@ fn heard(before: &BoardState, packet: &Packet) -> Option<BoardState>
 }
 
 /// Returns the C struct with the values of the state `state`.
-fn numbers(state: &BoardState) -> DccBoard
+pub(crate) fn numbers(state: &BoardState) -> DccBoard
     ensures { result ≡ board_numbers state.now }
 {
     DccBoard {
@@ -172,7 +172,7 @@ fn numbers(state: &BoardState) -> DccBoard
 
 /// Returns the state with the values of the C struct `board`. Returns `None` if its address is
 /// above 511.
-fn state_of(board: &DccBoard) -> Option<BoardState>
+pub(crate) fn state_of(board: &DccBoard) -> Option<BoardState>
     ensures found { (state : BoardState) → board.now ≡ board_numbers state → result ≡ Some state }
     ensures numbers { IfSome result (λ state. board.now ≡ board_numbers state) }
 {

@@ -120,7 +120,7 @@ pub(crate) fn registers_hear(registers: &DccLocoRegisters, frame: &[u8], heard: 
 /// Applies the packet of a frame to the decoder with the fields of `loco`. Returns false, and
 /// changes nothing, if the fields of `loco` are not a possible state of a decoder.
 #[inline(always)]
-fn apply(loco: &mut DccLoco, frame: &[u8]) -> bool
+pub(crate) fn apply(loco: &mut DccLoco, frame: &[u8]) -> bool
     requires { IsFrame frame.now }
     ensures decoder { result ≡ true → (before : LocoState) × (is_state before ≡ true)
         × (loco.old ≡ loco_numbers before) }

@@ -38,7 +38,7 @@ pub struct DccStatistics {
 pub extern "C" fn dcc_meter_new(meter: &mut TrackFigures)
     ensures { MeasuresTrack meter.new [] }
 {
-    *meter = TrackFigures::new();
+    meter.clear();
 }
 
 /// Takes `n` half-bits of `us` microseconds and returns 1. If the meter would then have taken 2^32

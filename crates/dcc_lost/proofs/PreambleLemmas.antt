@@ -1,10 +1,10 @@
 -- The preamble at the end of a list of half-bits, after one more half-bit.
-use Rattle.std.proofs.Common.{◌≡◌, ◌≢◌, ℕ, suc, ◌+◌, ◌-◌, ◌<◌, ◌≤◌, min, List, [], ◌∷◌, ◌++◌, length, take, map}
+use Rattle.std.proofs.Common.{◌≡◌, ◌≢◌, ℕ, suc, ◌+◌, ◌-◌, ◌<◌, min, List, [], ◌∷◌, ◌++◌, length, take, map}
 use Rattle.std.proofs.Common.{get_or, Option, None, Some, IfSome, refl, sym, ap, ◌∙◌, arith}
 use Rattle.std.proofs.Common.{append-nil, append_assoc, length-append, subst, true, false}
 use Rattle.std.proofs.lemmas.List.{map-append, get_or-drop}
 use Rattle.dcc_wire.specs.declared.half.Half.{Half}
-use Rattle.dcc_wire.specs.declared.half.Half.TheVariants.{One, Zero, Bad}
+use Rattle.dcc_wire.specs.declared.half.Half.TheVariants.{One}
 use Rattle.dcc_wire.specs.declared.seen.Seen.{Seen}
 use Rattle.dcc_wire.specs.declared.seen.Seen.TheVariants.{Nothing, Packet, Refused}
 use Rattle.dcc_wire.specs.Framing.{Rest, Hunting, InBody, is_hunting, rest, seen, report_at, ones_at_end, ones_before}

@@ -129,6 +129,17 @@ impl TrackFigures {
         }
     }
 
+    /// Removes all half-bits from the list.
+    pub fn clear(&mut self)
+        ensures { MeasuresTrack self.new [] }
+    {
+        self.timings.clear();
+        self.ended = Ended::new();
+        self.ones = 0;
+        self.unused = 0;
+        self.preambles.clear();
+    }
+
     /// Appends a half-bit of `us` microseconds to the list. The longer list must have fewer than
     /// 2^32 half-bits.
     // each of the two usual classes has its own machine code
@@ -195,15 +206,31 @@ impl TrackFigures {
     {
         let mut at = 0;
         'run: while at < n {
-            self.push(us);
-            at += 1;
-            // after 65535 and then 130 half-bits of a run, more of them change only the counts of
-            // half-bits
-            if at >= 66_000 && self.is_still(us) {
-                self.timings.take(us, n - at);
+            if self.pass_still(us, at, n - at) {
                 return;
             }
+            self.push(us);
+            at += 1;
         }
+    }
+
+    /// Appends `n` half-bits of `us` microseconds to the list if these half-bits change only the
+    /// counts of half-bits, and returns true. Otherwise returns false, and nothing changes. The list
+    /// ends with `at` half-bits of the run. After 65535 and then 130 half-bits of a run, more of them
+    /// change only the counts of half-bits.
+    fn pass_still(&mut self, us: u16, at: u32, n: u32) -> bool
+        requires { self.old.timings.halves + n < 2 ^ 32 }
+        ensures measures { IsTrue result → (durations : List ℕ) → MeasuresTrack self.old durations
+            → MeasuresTrack self.new (durations ++ replicate n us) }
+        ensures count { IsTrue result → self.new.timings.halves ≡ self.old.timings.halves + n }
+        ensures left { result ≡ false → (durations : List ℕ) → MeasuresTrack self.old durations
+            → MeasuresTrack self.new durations }
+        ensures left_count { result ≡ false → self.new.timings.halves ≡ self.old.timings.halves }
+    {
+        if at < 66_000 || !self.is_still(us) {
+            return false;
+        }
+        self.timings.pass_run(us, n)
     }
 
     /// Appends `n` half-bits of `us` microseconds to the list, if the longer list has fewer than 2^32

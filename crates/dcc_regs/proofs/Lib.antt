@@ -17,6 +17,7 @@ pub mod MeetLemmas
 pub mod ConflictLemmas
 pub mod LawLemmas
 pub mod CvLemmas
+pub mod CvSetLemmas
 pub mod StoredCvLemmas
 pub mod KindsDiffer
 pub mod ResultByParts

@@ -1,5 +1,5 @@
 -- The registers of a locomotive decoder and their start values.
-use Rattle.std.specs.Prelude.{ℕ, Bool, true, false, ◌&&◌, nat_le, Option, None, Some}
+use Rattle.std.specs.Prelude.{ℕ, Bool, true, false, ◌&&◌, ◌==◌, nat_le, Option, None, Some}
 use Rattle.std.specs.Prelude.{if◌then◌else◌}
 use Rattle.dcc_packet.specs.declared.address.Address.{Address}
 use Rattle.dcc_packet.specs.declared.instruction.What.{What}
@@ -106,3 +106,10 @@ cv_held m cv = byte_of (λ place. holds_one (m (CvBit cv place)))
 abbrev pub powered_up : RegisterMap → RegisterMap
 powered_up m (CvBit cv place) = m (CvBit cv place)
 powered_up m r = start_map (cv_held m) r
+
+-- the registers `m` of a locomotive decoder after CV `n` has the value `value`. All other registers
+-- are unchanged.
+abbrev pub with_cv : RegisterMap → ℕ → ℕ → RegisterMap
+with_cv m n value (CvBit cv place) =
+    if cv == n && nat_le place 7 then Some (Flag (is_one value place)) else m (CvBit cv place)
+with_cv m n value r = m r

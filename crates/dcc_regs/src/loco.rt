@@ -30,7 +30,7 @@ pub struct LocoDecoder {
 
 impl LocoDecoder {
     ghost use Rattle.dcc_packet.specs.Cvs.{cv_in};
-    ghost use Rattle.dcc_regs.specs.Loco.{cv_held, powered_up, start_map, start_who};
+    ghost use Rattle.dcc_regs.specs.Loco.{cv_held, powered_up, start_map, start_who, with_cv};
     ghost use Rattle.dcc_regs.specs.LocoRegisters.{with_cvs};
     ghost use Rattle.dcc_regs.specs.LocoState.{is_state, loco_map, loco_who};
 
@@ -102,6 +102,16 @@ impl LocoDecoder {
         ensures { result ≡ cv_held (⟦<LocoDecoder as Decoder>⟧.registers self.now) cv.number }
     {
         cv_value(&self.cvs, cv)
+    }
+
+    /// Sets the CV `cv` to `value`. The active address and all other registers do not change.
+    pub fn set_cv(&mut self, cv: CvNumber, value: u8)
+        ensures who { ⟦<LocoDecoder as Decoder>⟧.who self.new ≡ ⟦<LocoDecoder as Decoder>⟧.who self.old }
+        ensures registers { ⟦<LocoDecoder as Decoder>⟧.registers self.new ≡ with_cv
+            (⟦<LocoDecoder as Decoder>⟧.registers self.old) cv.number value }
+    {
+        lemma_cvs(&self.cvs);
+        self.cvs[usize::from(cv.number()) - 1] = value;
     }
 
     /// Returns the registers except the CVs, with functions and binary states as bits.

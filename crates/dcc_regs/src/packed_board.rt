@@ -108,6 +108,8 @@ impl Decoder for PackedBoard {
         Who::Board(self.board)
     }
 
+    // inlined, since a call of its own takes 16 bytes of stack more
+    #[inline(always)]
     fn apply(&mut self, packet: &Packet) {
         if hears(self.who(), packet) {
             self.outs = outs_set(packet).over(self.outs);

@@ -24,7 +24,7 @@ pub struct PackedLoco {
 
 impl PackedLoco {
     ghost use Rattle.dcc_packet.specs.Cvs.{cv_in};
-    ghost use Rattle.dcc_regs.specs.Loco.{cv_held, powered_up, start_map, start_who};
+    ghost use Rattle.dcc_regs.specs.Loco.{cv_held, powered_up, start_map, start_who, with_cv};
     ghost use Rattle.dcc_regs.specs.LocoState.{is_state, loco_map, loco_who};
 
     /// Creates a locomotive decoder that was powered up with the CVs `cvs`.
@@ -85,6 +85,16 @@ impl PackedLoco {
         ensures { result ≡ cv_held (⟦<PackedLoco as Decoder>⟧.registers self.now) cv.number }
     {
         cv_value(&self.cvs, cv)
+    }
+
+    /// Sets the CV `cv` to `value`. The active address and all other registers do not change.
+    pub fn set_cv(&mut self, cv: CvNumber, value: u8)
+        ensures who { ⟦<PackedLoco as Decoder>⟧.who self.new ≡ ⟦<PackedLoco as Decoder>⟧.who self.old }
+        ensures registers { ⟦<PackedLoco as Decoder>⟧.registers self.new ≡ with_cv
+            (⟦<PackedLoco as Decoder>⟧.registers self.old) cv.number value }
+    {
+        lemma_cvs(&self.cvs);
+        self.cvs[usize::from(cv.number()) - 1] = value;
     }
 }
 

@@ -1,6 +1,6 @@
 -- What the questions of each kind come to, and the bits of a number.
 use Rattle.std.proofs.Common.{◌≡◌, ◌≢◌, ℕ, zero, suc, ◌+◌, ◌-◌, ◌*◌, ◌/◌, Bool, true, false, List, [], ◌∷◌, get_or}
-use Rattle.std.proofs.Common.{set, cond, Some, refl, ap, ◌∙◌, arith}
+use Rattle.std.proofs.Common.{length, set, cond, Some, refl, ap, ◌∙◌, arith}
 use Rattle.std.specs.Prelude.{slice_get, not}
 use Rattle.std.specs.Int.{bit_at}
 use Rattle.std.proofs.lemmas.List.{get_or-set_same, get_or-set_other}
@@ -10,7 +10,7 @@ use Rattle.dcc_packet.specs.Rows.{bit}
 use Rattle.dcc_packet.specs.declared.cv.CvNumber.{CvNumber}
 use Rattle.dcc_service.specs.declared.packet.ServicePacket.TheVariants.{Write, Verify, BitWrite, BitVerify}
 use Rattle.dcc_service.specs.Bits.{number_from_lowest}
-use Rattle.dcc_packet.specs.Cvs.{IsCvs, cv_in, is_writable, written}
+use Rattle.dcc_packet.specs.Cvs.{cv_in, is_writable, written}
 use Rattle.dcc_service.specs.Machine.{ServiceState}
 use Rattle.dcc_service.specs.Question.{four_no_then}
 use Rattle.dcc_service.specs.QuestionLaws.{QuestionsAreAnswered, VerifiesTell, BitVerifiesTell, WritesAreDone}
@@ -33,24 +33,24 @@ bit_verifies_tell cv bits one before after answers asked =
     let known = questions_answered (BitVerify cv bits one) before after answers asked in
     (known.1, ap (λ (s : ServiceState). s.cvs) known.0)
 
-value-written : (cvs : List ℕ) (cv : CvNumber) (value : ℕ) → IsCvs cvs → is_writable cv ≡ true
+pub value-written : (cvs : List ℕ) (cv : CvNumber) (value : ℕ) → length cvs ≡ 1024 → is_writable cv ≡ true
     → cv_in (written cvs cv value) cv.number ≡ value
-value-written cvs cv value ok is_written =
+value-written cvs cv value count is_written =
     ap (λ (w : Bool). get_or (cond w (set cvs (cv.number - 1) value) cvs) (cv.number - 1) 0) is_written
-    ∙ get_or-set_same cvs (cv.number - 1) value 0 (omega (arith, ok.count, cv.in_range))
+    ∙ get_or-set_same cvs (cv.number - 1) value 0 (omega (arith, count, cv.in_range))
 
 other_kept : (w : Bool) (cvs : List ℕ) (i j value : ℕ) → j ≢ i
     → get_or (cond w (set cvs i value) cvs) j 0 ≡ get_or cvs j 0
 other_kept true cvs i j value h = get_or-set_other cvs i j value 0 h
 other_kept false cvs i j value h = refl
 
-value-other : (cvs : List ℕ) (cv other : CvNumber) (value : ℕ) → other.number ≢ cv.number
+pub value-other : (cvs : List ℕ) (cv other : CvNumber) (value : ℕ) → other.number ≢ cv.number
     → cv_in (written cvs cv value) other.number ≡ cv_in cvs other.number
 value-other cvs cv other value h =
     other_kept (is_writable cv) cvs (cv.number - 1) (other.number - 1) value
     (λ e. h (omega (arith, cv.in_range, other.in_range)))
 
-unwritten : (cvs : List ℕ) (cv : CvNumber) (value : ℕ) → is_writable cv ≡ false → written cvs cv value ≡ cvs
+pub unwritten : (cvs : List ℕ) (cv : CvNumber) (value : ℕ) → is_writable cv ≡ false → written cvs cv value ≡ cvs
 unwritten cvs cv value isnt = ap (λ (w : Bool). cond w (set cvs (cv.number - 1) value) cvs) isnt
 
 pub writes_done : WritesAreDone
@@ -59,7 +59,7 @@ writes_done cv value before after answers other asked =
     let known = questions_answered (Write cv value) before after answers asked in
     let cvs : after.cvs ≡ written before.cvs cv value = ap (λ (s : ServiceState). s.cvs) known.0 in (
       known.1 ∙ ap four_no_then is_written,
-      ap (λ (xs : List ℕ). cv_in xs cv.number) cvs ∙ value-written before.cvs cv value asked.cvs is_written,
+      ap (λ (xs : List ℕ). cv_in xs cv.number) cvs ∙ value-written before.cvs cv value asked.cvs.count is_written,
       λ another h. ap (λ (xs : List ℕ). cv_in xs another.number) cvs ∙ value-other before.cvs cv another value h,
     )
 
@@ -70,7 +70,7 @@ bit_writes_done cv bits one before after answers other asked =
     let known = questions_answered (BitWrite cv bits one) before after answers asked in
     let cvs : after.cvs ≡ written before.cvs cv value = ap (λ (s : ServiceState). s.cvs) known.0 in
     let has : cv_in after.cvs cv.number ≡ value =
-    ap (λ (xs : List ℕ). cv_in xs cv.number) cvs ∙ value-written before.cvs cv value asked.cvs is_written in (
+    ap (λ (xs : List ℕ). cv_in xs cv.number) cvs ∙ value-written before.cvs cv value asked.cvs.count is_written in (
       known.1 ∙ ap four_no_then is_written,
       ap (λ (v : ℕ). bit_at v bits.place) has
           ∙ bit_at-with_bit (cv_in before.cvs cv.number) bits.place one bits.in_range,

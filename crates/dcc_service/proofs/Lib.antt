@@ -8,4 +8,5 @@ pub mod LawLemmas
 pub mod ReaderLemmas
 pub mod ReadingLemmas
 pub mod ReadingsUnderWay
+pub mod WritingLemmas
 pub mod WorkedExamples

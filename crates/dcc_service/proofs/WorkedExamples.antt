@@ -3,8 +3,11 @@ use Rattle.std.proofs.Common.{◌≡◌, true, false, [], ◌∷◌, refl, lit�
 use Rattle.dcc_packet.specs.declared.cv.CvNumber.{CvNumber}
 use Rattle.dcc_packet.specs.declared.cv.BitPlace.{BitPlace}
 use Rattle.dcc_service.specs.declared.packet.ServicePacket.TheVariants.{Write, Verify, BitWrite, BitVerify}
+use Rattle.dcc_service.specs.declared.writer.CvWriter.{CvWriter}
+use Rattle.dcc_service.specs.declared.writer.Writing.TheVariants.{More, Done, Failed}
 use Rattle.dcc_service.specs.Bits.{bits_from_lowest, number_from_lowest}
 use Rattle.dcc_service.specs.CvAnswers.{question_frame}
+use Rattle.dcc_service.specs.CvWritings.{writing_question, writing_after}
 use Rattle.dcc_packet.specs.Bits.{with_bit}
 use Rattle.dcc_service.specs.Machine.{reset_bytes, acted_on, is_acknowledged}
 use Rattle.dcc_service.specs.ReadingLaws.{true_answers}
@@ -21,6 +24,13 @@ cv1024 = record { number = 1024; in_range = (lit≤ tt, lit≤ tt) }
 
 abbrev place5 : BitPlace
 place5 = record { place = 5; in_range = lit≤ tt }
+
+-- a writing of 10 to CV1, before and after its first answer
+abbrev ten_to_cv1 : CvWriter
+ten_to_cv1 = record { cv = cv1; value = 10; is_verifying = false }
+
+abbrev ten_compared : CvWriter
+ten_compared = record { cv = cv1; value = 10; is_verifying = true }
 
 record Rows : Type 0 where
   the_reset : reset_bytes ≡ 0x00 ∷ 0x00 ∷ 0x00 ∷ []
@@ -43,6 +53,12 @@ record Rows : Type 0 where
   false_verify : is_acknowledged (Verify cv1 10) (11 ∷ []) ≡ false
   bit_is_written : acted_on (BitWrite cv1 place5 true) (11 ∷ []) ≡ 43 ∷ []
   bit_is_cleared : acted_on (BitWrite cv1 place5 false) (43 ∷ []) ≡ 11 ∷ []
+  the_write_is_asked : writing_question ten_to_cv1 ≡ Write cv1 10
+  the_comparison_is_asked : writing_question ten_compared ≡ Verify cv1 10
+  an_acknowledged_write_is_compared : writing_after ten_to_cv1 true ≡ More ten_compared
+  a_silent_write_is_compared : writing_after ten_to_cv1 false ≡ More ten_compared
+  an_equal_value_is_done : writing_after ten_compared true ≡ Done
+  another_value_is_failed : writing_after ten_compared false ≡ Failed
 
 rows : Rows
 unfolding bits_from_lowest number_from_lowest with_bit
@@ -65,4 +81,10 @@ rows = record {
   false_verify = refl;
   bit_is_written = refl;
   bit_is_cleared = refl;
+  the_write_is_asked = refl;
+  the_comparison_is_asked = refl;
+  an_acknowledged_write_is_compared = refl;
+  a_silent_write_is_compared = refl;
+  an_equal_value_is_done = refl;
+  another_value_is_failed = refl;
 }

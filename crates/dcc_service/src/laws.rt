@@ -10,6 +10,8 @@ ghost use Rattle.dcc_service.specs.ReadingLaws.{AllNoGivesNoValue, NumbersHaveTh
 ghost use Rattle.dcc_service.specs.ReadingLaws.{QuestionsHaveTheirFrames, ReadingBegins, ReadingGoesOn};
 ghost use Rattle.dcc_service.specs.ReadingLaws.{ReadingIsAnswered};
 ghost use Rattle.dcc_service.specs.ReadingLaws.{ReadingKeepsTheCvs, ReadingTellsTheValue};
+ghost use Rattle.dcc_service.specs.WritingLaws.{DoneIsTrue, KeptCvsAreCompared, WritingLeavesOthers, WritingsAreDone};
+ghost use Rattle.dcc_service.specs.WritingLaws.{DoneIsWritten, FailedIsKept, WritingBegins, WritingGoesOn};
 
 use crate::ServicePacket;
 use crate::progress::is_reset;
@@ -100,4 +102,26 @@ pub fn readings_under_way()
     ensures keeps { ReadingKeepsTheCvs }
     ensures tells { ReadingTellsTheValue }
     ensures is_answered { ReadingIsAnswered }
+{}
+
+/// Theorem: let a decoder get the two questions of a writing, and let its acknowledgements be the
+/// answers. If the result is `Done`, the CV has the written value. For each CV except CV7 and CV8
+/// the result is `Done`. For CV7 and CV8 the result is `Done` if and only if the CV had the value
+/// before. No other CV changes.
+pub fn writings_tell_the_truth()
+    ensures done { DoneIsTrue }
+    ensures writable { WritingsAreDone }
+    ensures kept { KeptCvsAreCompared }
+    ensures others { WritingLeavesOthers }
+{}
+
+/// Theorem: let a caller send each question of a [`CvWriter`](crate::CvWriter) to a decoder. If the
+/// writing ends with `Done`, the CV has the written value. The writing ends with `Failed` only for
+/// CV7 or CV8 with another value. A caller with its own loop uses this theorem. The clauses are
+/// about the start, the first question with its answer, and the end.
+pub fn writings_under_way()
+    ensures begins { WritingBegins }
+    ensures goes_on { WritingGoesOn }
+    ensures done { DoneIsWritten }
+    ensures failed { FailedIsKept }
 {}

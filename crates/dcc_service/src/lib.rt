@@ -15,9 +15,11 @@ mod reader;
 mod state;
 mod stored_cvs;
 mod to_frame;
+mod writer;
 
 pub use decoder::ServiceDecoder;
 pub use packet::ServicePacket;
 pub use progress::ServiceProgress;
 pub use question::{ask, question_frames};
 pub use reader::{CvReader, Reading};
+pub use writer::{CvWriter, Writing};

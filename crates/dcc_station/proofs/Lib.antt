@@ -2,6 +2,7 @@ pub mod Tables
 pub mod Effects
 pub mod Transparent
 pub mod EntriesLeft
+pub mod EntriesForgotten
 pub mod EntriesInTurn
 pub mod StatePackets
 pub mod RingItems

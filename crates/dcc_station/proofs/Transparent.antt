@@ -22,9 +22,11 @@ use Rattle.dcc_regs.specs.Setting.{value_over, mode_in}
 use Rattle.dcc_regs.proofs.ResultByParts.{read, read-state_after, State, step, state_after, start}
 use Rattle.dcc_station.specs.Sending.{Sending, copies, Displaces, Leaves, with_entry, Refreshes, EntriesAfter, HandsOut}
 use Rattle.dcc_station.specs.Commands.{is_refreshed}
-use Rattle.dcc_station.specs.Refresh.{StationRepresents, made, accepts, hands_out, intended, RefreshIsTransparent}
-use Rattle.dcc_station.specs.Refresh.{TransparentWhereNothingWaits, WaitingIsSuffix}
+use Rattle.dcc_station.specs.Refresh.{StationRepresents, made, accepts, hands_out, forgets, intended}
+use Rattle.dcc_station.specs.Refresh.{RefreshIsTransparent}
+use Rattle.dcc_station.specs.Refresh.{TransparentWhereNothingWaits, WaitingIsSuffix, BroadcastsAreNoEntries}
 use Rattle.dcc_station.proofs.Tables.{refreshed_address, refreshed_is_no_write}
+use Rattle.dcc_station.proofs.EntriesForgotten.{all_left, none_to_all}
 use Rattle.dcc_regs.proofs.LawLemmas.{idle_is_unheard, values_are_decided}
 use Rattle.dcc_regs.proofs.ConflictLemmas.{conflict_from}
 use Rattle.dcc_regs.specs.Effects.{Differ}
@@ -256,6 +258,15 @@ module _ (who : Who) where
         }
     stands _ _ _ (hands_out old new commands before p from next) =
         next_keeps old.waiting old.entries old.sent old commands before p new (stands old commands before from) next
+    stands _ _ _ (forgets old commands packets to from) =
+        let inv = stands old commands packets from in record {
+          done = inv.done;
+          target = inv.target;
+          split = inv.split;
+          progress = inv.progress;
+          entries = all_left to (Entry inv.target) old.entries inv.entries;
+          some = inv.some;
+        }
 
     when_whole : (sent : ℕ) (waiting done : List Packet) (c : Core) (s : State) → sent ≡ 0
         → Progress sent waiting done c s → core s ≡ asked done
@@ -291,3 +302,13 @@ refresh_all s commands packets from none who m r other =
 pub waiting_is_the_end : WaitingIsSuffix
 waiting_is_the_end s commands packets from =
     let inv = stands (Loco None) (λ r. None) s commands packets from in (inv.done, inv.split)
+
+pub broadcasts : BroadcastsAreNoEntries
+broadcasts s commands packets from =
+    let inv = stands (Loco None) (λ r. None) s commands packets from in
+    ap (λ l. record s { entries = l }) (none_to_all s.entries (refreshed s.entries inv.target inv.entries))
+  where
+    refreshed : (l : List Packet) (c : Core) → AllByRecursion (Entry (Loco None) c) l
+        → AllByRecursion (λ e. is_refreshed e ≡ true) l
+    refreshed [] c all = tt
+    refreshed (e ∷ l) c all = (all.0.0, refreshed l c all.1)

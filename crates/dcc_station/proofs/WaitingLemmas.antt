@@ -17,9 +17,10 @@ use Rattle.dcc_packet.specs.declared.packet.Packet.{Packet}
 use Rattle.dcc_packet.specs.Spelling.{spelling, BytesFit}
 use Rattle.dcc_packet.proofs.FrameSpellings.{spellings_are_frames}
 use Rattle.dcc_regs.specs.Writes.{is_own_write}
-use Rattle.dcc_station.specs.Sending.{Sending, copies, with_command, sent_once_more, HandsOut}
-use Rattle.dcc_station.specs.Refresh.{StationRepresents, made, accepts, hands_out}
-use Rattle.dcc_station.specs.WaitingTimes.{RunsTo, stays, accepts_one, returns_one, all_copies, copies_left, sent_with}
+use Rattle.dcc_station.specs.Sending.{Sending, copies, with_command, forgotten, sent_once_more, HandsOut}
+use Rattle.dcc_station.specs.Refresh.{StationRepresents, made, accepts, hands_out, forgets}
+use Rattle.dcc_station.specs.WaitingTimes.{RunsTo, stays, accepts_one, returns_one, forgets_one, all_copies}
+use Rattle.dcc_station.specs.WaitingTimes.{copies_left, sent_with}
 use Rattle.dcc_station.specs.WaitingTimes.{CommandsAreSentInTurn, CommandsWaitForFewPackets, SentPacketsAreShort}
 use Rattle.dcc_station.specs.WaitingTimes.{CommandsAreSentInTime, CommandsAreSentInMicroseconds, longest_time}
 use Rattle.dcc_station.specs.WaitingTimes.{SentPacketsTakeFewMicroseconds}
@@ -147,6 +148,8 @@ run_in_turn _ _ _ (accepts_one s new packets q run) before later p counted is le
 run_in_turn _ _ _ (returns_one s between new q packets next run) before later p counted is less =
     returned s.waiting s.entries before later packets s between q p counted (run_in_turn between new packets run) next
     is less
+run_in_turn _ _ _ (forgets_one s new packets to run) before later p counted is less =
+    run_in_turn (forgotten s to) new packets run before later p counted is less
 
 -- one more packet keeps the count
 counted_next : (waiting entries : List Packet) (s new : Sending) (out : Packet)
@@ -170,6 +173,7 @@ counted_always _ _ _ (accepts old before packets p from sendable room) =
     (counted.0, unfinished-more old.repeats old.sent old.waiting p counted.0 counted.1)
 counted_always _ _ _ (hands_out old new commands before p from next) =
     counted_next old.waiting old.entries old new p (counted_always old commands before from) next
+counted_always _ _ _ (forgets old commands packets to from) = counted_always old commands packets from
 
 pub in_turn : CommandsAreSentInTurn
 in_turn s new commands gone before later packets p from is run less =

@@ -1,6 +1,8 @@
 -- The refreshing of a station is transparent: decoders have the same registers with and without the
 -- refreshed packets.
 use Rattle.std.specs.Prelude.{ℕ, ◌≡◌, ◌≢◌, ◌<◌, true, List, [], ◌∷◌, ◌++◌, length, if◌then◌else◌}
+use Rattle.dcc_packet.specs.declared.address.Address.{Address}
+use Rattle.dcc_packet.specs.declared.address.Address.TheVariants.{Broadcast}
 use Rattle.dcc_packet.specs.declared.packet.Packet.{Packet}
 use Rattle.dcc_regs.specs.declared.register.Who.{Who}
 use Rattle.dcc_regs.specs.declared.register.Register.{Register}
@@ -8,9 +10,10 @@ use Rattle.dcc_regs.specs.declared.register.Register.TheVariants as registers
 use Rattle.dcc_regs.specs.Writes.{is_own_write}
 use Rattle.dcc_regs.specs.Result.{RegisterMap, HasHeard, result, step}
 use Rattle.dcc_station.specs.Commands.{is_sendable}
-use Rattle.dcc_station.specs.Sending.{Sending, idle_sending, with_command, Next, NextAll}
+use Rattle.dcc_station.specs.Sending.{Sending, idle_sending, with_command, forgotten, Next, NextAll}
 
--- a station in state `s` has accepted `commands` and returned `packets` since it was new
+-- a station in state `s` has accepted `commands` and returned `packets` since it was new. It can have
+-- forgotten entries at any time.
 pub data StationRepresents : Sending → List Packet → List Packet → Type 0 where
   made : (queue slots repeats : ℕ) → 0 < repeats → StationRepresents (idle_sending queue slots repeats) [] []
   accepts : (s : Sending) (commands packets : List Packet) (p : Packet) → StationRepresents s commands packets
@@ -18,6 +21,8 @@ pub data StationRepresents : Sending → List Packet → List Packet → Type 0 
       StationRepresents (with_command s p) (commands ++ p ∷ []) packets
   hands_out : (s new : Sending) (commands packets : List Packet) (p : Packet) → StationRepresents s commands packets
       → Next s p new → StationRepresents new commands (packets ++ p ∷ [])
+  forgets : (s : Sending) (commands packets : List Packet) (to : Address) → StationRepresents s commands packets
+      → StationRepresents (forgotten s to) commands packets
 
 -- the packets that the operator intends by a list of commands. The list has each command once, and
 -- each own write twice.
@@ -60,6 +65,11 @@ WaitingIsSuffix =
     (s : Sending) (commands packets : List Packet) → StationRepresents s commands packets
     → (done : List Packet) × (commands ≡ done ++ s.waiting)
 
+-- no entry has the broadcast address, so a station that forgets the broadcast address does not change
+abbrev pub BroadcastsAreNoEntries : Type 0
+BroadcastsAreNoEntries =
+    (s : Sending) (commands packets : List Packet) → StationRepresents s commands packets → forgotten s Broadcast ≡ s
+
 -- a station in state `s` has accepted `commands`, and a decoder has heard all packets that this
 -- station has returned. The registers of the decoder were `start` before these packets and are
 -- `now` after them.
@@ -91,6 +101,14 @@ OneMoreAccepted = (s new : Sending) (commands : List Packet) (p : Packet) (who w
     → ((packets : List Packet) → StationRepresents s commands packets
     → StationRepresents new (commands ++ p ∷ []) packets)
     → HasHeardStation new (commands ++ p ∷ []) who start who' now
+
+-- let a decoder have heard all packets that a station has returned. After the station has forgotten
+-- entries, the decoder has still heard all packets that the station has returned.
+abbrev pub EntriesForgotten : Type 0
+EntriesForgotten = (s new : Sending) (commands : List Packet) (who who' : Who) (start now : RegisterMap)
+    → HasHeardStation s commands who start who' now
+    → ((packets : List Packet) → StationRepresents s commands packets → StationRepresents new commands packets)
+    → HasHeardStation new commands who start who' now
 
 -- let no command wait, and let a decoder have heard all packets that the station has returned. Then
 -- each register except Pending has its value in `result who start (intended commands)`.

@@ -1,6 +1,10 @@
 -- The packets that a command station sends: the commands of the queue, then the entries.
-use Rattle.std.specs.Prelude.{ℕ, ◌+◌, ◌≡◌, ◌⊎◌, true, List, [], ◌∷◌, ◌++◌, if◌then◌else◌, nat_le}
+use Rattle.std.specs.Prelude.{ℕ, ◌+◌, ◌≡◌, ◌⊎◌, Bool, true, false, not, List, [], ◌∷◌, ◌++◌, filter}
+use Rattle.std.specs.Prelude.{if◌then◌else◌, nat_le}
+use Rattle.std.specs.Option.{option_map_or}
 use Rattle.std.proofs.Common.{zero, suc}
+use Rattle.dcc_packet.specs.Address.{same_address}
+use Rattle.dcc_packet.specs.declared.address.Address.{Address}
 use Rattle.dcc_packet.specs.declared.packet.Packet.{Packet}
 use Rattle.dcc_packet.specs.declared.packet.Packet.TheVariants.{Idle}
 use Rattle.dcc_regs.specs.Conflict.{Conflict}
@@ -52,6 +56,19 @@ with_entry slots entries p = keep_last slots (entries ++ p ∷ [])
 abbrev pub Refreshes : ℕ → Packet → List Packet → List Packet → Type 0
 Refreshes slots p entries new =
     (kept : List Packet) × Leaves p entries kept × (new ≡ (if is_refreshed p then with_entry slots kept p else kept))
+
+-- true if the packet is sent to the address `to` of locomotive decoders
+abbrev pub has_address : Address → Packet → Bool
+has_address to p = option_map_or (λ own. same_address own to) (address_of p) false
+
+-- the entries of the list `entries` that do not have the address `to`, in order
+abbrev pub without_address : Address → List Packet → List Packet
+without_address to entries = filter (λ entry. not (has_address to entry)) entries
+
+-- the state of a station in state `s` after it has forgotten its entries with the address `to`. The
+-- commands in the queue and the number of sent copies stay.
+abbrev pub forgotten : Sending → Address → Sending
+forgotten s to = record s { entries = without_address to s.entries }
 
 -- the state of a station in state `s` after it has accepted the command `p`
 abbrev pub with_command : Sending → Packet → Sending

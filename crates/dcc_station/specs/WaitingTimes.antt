@@ -4,19 +4,22 @@ use Rattle.std.specs.Prelude.{ℕ, ◌+◌, ◌*◌, ◌≡◌, ◌<◌, ◌≤�
 use Rattle.std.specs.List.{AllByRecursion}
 use Rattle.dcc_wire.specs.declared.timing.Timing.{Timing}
 use Rattle.dcc_wire.specs.Sending.{Sent, sent_all}
+use Rattle.dcc_packet.specs.declared.address.Address.{Address}
 use Rattle.dcc_packet.specs.declared.packet.Packet.{Packet}
 use Rattle.dcc_packet.specs.Spelling.{spelling, BytesFit}
-use Rattle.dcc_station.specs.Sending.{Sending, copies, with_command, Next, NextAll}
+use Rattle.dcc_station.specs.Sending.{Sending, copies, with_command, forgotten, Next, NextAll}
 use Rattle.dcc_station.specs.Refresh.{StationRepresents}
 
 -- a station in state `s` returns the packets of a list, one after the other, and goes to state
--- `new`. The station can accept commands before, between and after these packets.
+-- `new`. The station can accept commands and forget entries before, between and after these packets.
 pub data RunsTo : Sending → List Packet → Sending → Type 0 where
   stays : (s : Sending) → RunsTo s [] s
   accepts_one : (s new : Sending) (packets : List Packet) (p : Packet) → RunsTo (with_command s p) packets new
       → RunsTo s packets new
   returns_one : (s between new : Sending) (p : Packet) (packets : List Packet) → Next s p between
       → RunsTo between packets new → RunsTo s (p ∷ packets) new
+  forgets_one : (s new : Sending) (packets : List Packet) (to : Address) → RunsTo (forgotten s to) packets new
+      → RunsTo s packets new
 
 -- if a station in state `s` returns `packets` one after the other and accepts no command, `RunsTo`
 -- holds for these packets
@@ -36,6 +39,13 @@ abbrev pub RunsGoOnByCommands : Type 0
 RunsGoOnByCommands =
     (s between : Sending) (packets : List Packet) (p : Packet) → RunsTo s packets between
     → RunsTo s packets (with_command between p)
+
+-- let `RunsTo` hold for `packets`. If the station then forgets its entries with the address `to`,
+-- `RunsTo` still holds for `packets`.
+abbrev pub RunsGoOnByForgetting : Type 0
+RunsGoOnByForgetting =
+    (s between : Sending) (packets : List Packet) (to : Address) → RunsTo s packets between
+    → RunsTo s packets (forgotten between to)
 
 -- the copies of all commands of a list, in order. There are `repeats` copies of each command, or
 -- `repeats + 1` copies of an own write.

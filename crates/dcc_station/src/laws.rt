@@ -1,6 +1,7 @@
 //! Theorems about the packets that a station sends.
 
-ghost use Rattle.dcc_station.specs.Refresh.{EntriesAreHandedOutInTurn, HeardIsIntended, NothingHandedOut};
+ghost use Rattle.dcc_station.specs.Refresh.{BroadcastsAreNoEntries, EntriesAreHandedOutInTurn, EntriesForgotten};
+ghost use Rattle.dcc_station.specs.Refresh.{HeardIsIntended, NothingHandedOut};
 ghost use Rattle.dcc_station.specs.Refresh.{OneMoreAccepted};
 ghost use Rattle.dcc_station.specs.Refresh.{OneMoreHandedOut, RefreshIsTransparent};
 ghost use Rattle.dcc_station.specs.Refresh.{TransparentWhereNothingWaits, WaitingIsSuffix};
@@ -8,7 +9,7 @@ ghost use Rattle.dcc_station.specs.States.{StatesAreNoEntries, StatesConflictWit
 ghost use Rattle.dcc_station.specs.WaitingTimes.{CommandsAreSentInMicroseconds, CommandsAreSentInTime};
 ghost use Rattle.dcc_station.specs.WaitingTimes.{CommandsAreSentInTurn, CommandsWaitForFewPackets};
 ghost use Rattle.dcc_station.specs.WaitingTimes.{ReturnedPacketsAreRuns, RunsGoOnByCommands};
-ghost use Rattle.dcc_station.specs.WaitingTimes.{RunsGoOnByPackets};
+ghost use Rattle.dcc_station.specs.WaitingTimes.{RunsGoOnByForgetting, RunsGoOnByPackets};
 ghost use Rattle.dcc_station.specs.WaitingTimes.{SentPacketsAreShort, SentPacketsTakeFewMicroseconds};
 ghost use Rattle.dcc_station.specs.WaitingTimes.{longest_time};
 ghost use Rattle.dcc_wire.specs.NominalTimings.{main_timing};
@@ -39,13 +40,15 @@ pub fn waiting_is_the_end()
 {}
 
 /// Theorem: the relation `RunsTo` holds for the packets that a station returns, whatever commands
-/// the station accepts between these packets. The clauses are about packets with no command between
-/// them, about one more packet, and about one more command. A caller with its own loop uses this
-/// theorem as the premise of [`commands_are_sent_in_turn`] and [`commands_are_sent_in_time`].
+/// the station accepts and whatever entries it forgets between these packets. The clauses are about
+/// packets with no command between them, about one more packet, about one more command, and about
+/// forgotten entries. A caller with its own loop uses this theorem as the premise of
+/// [`commands_are_sent_in_turn`] and [`commands_are_sent_in_time`].
 pub fn runs_go_on()
     ensures returned { ReturnedPacketsAreRuns }
     ensures handed_out { RunsGoOnByPackets }
     ensures accepted { RunsGoOnByCommands }
+    ensures forgotten { RunsGoOnByForgetting }
 {}
 
 /// Theorem: the next packets of a station are the remaining copies of the first commands of the
@@ -90,13 +93,20 @@ pub fn states_conflict_with_no_entry()
     ensures { StatesConflictWithNoEntry }
 {}
 
+/// Theorem: an entry of a station never has the broadcast address. So a station that forgets the
+/// broadcast address does not change.
+pub fn broadcasts_are_no_entries()
+    ensures { BroadcastsAreNoEntries }
+{}
+
 /// Theorem: let a decoder hear each packet of a [`Station`](crate::Station). If the queue is empty,
 /// the decoder has the result of the commands. A caller with its own loop uses this theorem. The
-/// clauses are about the start, each packet that the decoder hears, each accepted command, and the
-/// time when the queue is empty.
+/// clauses are about the start, each packet that the decoder hears, each accepted command,
+/// forgotten entries, and the time when the queue is empty.
 pub fn stations_are_heard()
     ensures begins { NothingHandedOut }
     ensures handed_out { OneMoreHandedOut }
     ensures accepted { OneMoreAccepted }
+    ensures forgotten { EntriesForgotten }
     ensures intended { HeardIsIntended }
 {}

@@ -1,20 +1,25 @@
 //! The type of command stations.
 
-ghost use Rattle.std.specs.Prelude.{◌≡◌, ◌≤◌, ◌<◌, ◌&&◌, nat_le, true, false, List, [], ◌∷◌, ◌++◌, length, IfOk, IfErr};
+ghost use Rattle.std.specs.Prelude.{◌≡◌, ◌≢◌, ◌≤◌, ◌<◌, ◌+◌, ◌&&◌, nat_le, true, false, List, [], ◌∷◌, ◌++◌, length};
+ghost use Rattle.std.specs.Prelude.{filter, Some, IfOk, IfErr};
+ghost use Rattle.std.specs.List.{AllByRecursion};
 ghost use Rattle.std.specs.Prelude.{IsOk};
 ghost use Rattle.std.specs.Prelude.{OnOk, OnErr, ◌↔◌};
 ghost use Rattle.dcc_packet.specs.declared.packet.Packet.{Packet};
+ghost use Rattle.dcc_regs.specs.Heard.{address_of};
 ghost use Rattle.dcc_station.specs.Commands as commands;
 ghost use Rattle.dcc_station.specs.Limits.{is_within_limits};
 ghost use Rattle.dcc_station.specs.Refresh.{StationRepresents};
-ghost use Rattle.dcc_station.specs.Sending.{idle_sending, with_command, Next};
+ghost use Rattle.dcc_station.specs.Sending.{idle_sending, with_command, forgotten, has_address, Next};
+ghost use Rattle.dcc_station.specs.WaitingTimes.{copies_left};
 
 use crate::fault::{Refused, StationFault};
 use crate::fixed_ring::FixedRing;
+use crate::forget::forget_address;
 use crate::machine::{hand_out, take_command};
 use crate::ring::PacketRing;
 use circular_buffer::HeapCircularBuffer;
-use dcc_packet::Packet;
+use dcc_packet::{Address, Packet};
 use std::alloc::{AllocError, Global};
 use std::marker::Model;
 
@@ -168,6 +173,25 @@ impl<Q: PacketRing, S: PacketRing> StationOver<Q, S> {
             → StationRepresents self.new (commands ++ packet ∷ []) packets) }
     {
         take_command(&mut self.commands, packet)
+    }
+
+    /// Removes the entries with the address `address`. All other entries stay in their order. An
+    /// entry never has the broadcast address.
+    ///
+    /// The queue does not change, also if it has commands with the address `address`. If a command
+    /// is partly sent, the station still sends the remaining copies of this command. If no copy of
+    /// a command was sent, this command can become an entry when its first copy is sent.
+    pub fn forget(&mut self, address: Address)
+        ensures forgets { self.new ≡ forgotten self.old address }
+        ensures gone { AllByRecursion (λ (entry : Packet). address_of entry ≢ Some address) self.new.entries }
+        ensures removed { length self.new.entries + length (filter (has_address address) self.old.entries)
+            ≡ length self.old.entries }
+        ensures waiting { self.new.waiting ≡ self.old.waiting }
+        ensures copies { (before : List Packet) → copies_left self.new before ≡ copies_left self.old before }
+        ensures stands { (commands packets : List Packet) → StationRepresents self.old commands packets
+            → StationRepresents self.new commands packets }
+    {
+        forget_address(&mut self.entries, &address);
     }
 
     /// Returns the number of commands in the queue.

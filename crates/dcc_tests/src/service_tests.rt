@@ -3,7 +3,9 @@
 
 use crate::rows::{column, frame_of, is_hex, number};
 use dcc_packet::{BitPlace, CvNumber};
-use dcc_service::{CvReader, Reading, ServiceDecoder, ServicePacket, ask, question_frames};
+use dcc_service::{
+    CvReader, CvWriter, Reading, ServiceDecoder, ServicePacket, Writing, ask, question_frames,
+};
 use dcc_wire::Frame;
 use std::process::Abort;
 use std::test::Fail;
@@ -184,5 +186,67 @@ fn readings(rt: HostRuntime) -> Result<(), Fail> {
         }
     }
     assert!(rt; matches!(reader.answer(false), Reading::NoAnswer));
+    Ok(())
+}
+
+/// Sends the questions of a writing to a decoder, or to an empty track if `decoder` is `None`.
+/// Returns true if the writing ends with `Done`, and the number of questions.
+fn write(mut writer: CvWriter, mut decoder: Option<&mut ServiceDecoder>) -> (bool, u32) {
+    for count in 1..=2u32 {
+        let question = writer.question();
+        let yes = match &mut decoder {
+            Some(decoder) => ask(decoder, &question),
+            None => false,
+        };
+        match writer.answer(yes) {
+            Writing::More(next) => writer = next,
+            Writing::Done => return (true, count),
+            Writing::Failed => return (false, count),
+        }
+    }
+    (false, 3)
+}
+
+/// Checks that two questions write each value to a CV, that CV7 and CV8 never change, and that a
+/// writing on an empty track fails.
+#[test]
+fn writings(rt: HostRuntime) -> Result<(), Fail> {
+    let (first, seventh, eighth) = (CvNumber::new(1)?, CvNumber::new(7)?, CvNumber::new(8)?);
+    let mut decoder = with_cv1(3);
+    for value in 0..=255u8 {
+        assert!(rt; write(CvWriter::new(first, value), Some(&mut decoder)) == (true, 2));
+        assert!(rt; decoder.cvs()[0] == value && decoder.cvs()[1] == 0);
+        let is_there = (value == 0, 2);
+        assert!(rt; write(CvWriter::new(seventh, value), Some(&mut decoder)) == is_there);
+        assert!(rt; write(CvWriter::new(eighth, value), Some(&mut decoder)) == is_there);
+        assert!(rt; decoder.cvs()[6] == 0 && decoder.cvs()[7] == 0);
+    }
+    assert!(rt; write(CvWriter::new(first, 255), None) == (false, 2));
+    Ok(())
+}
+
+/// Checks the frames of the two questions, and that only the second answer is the result.
+#[test]
+fn a_writing_asks_two_questions(rt: HostRuntime) -> Result<(), Fail> {
+    let cv = CvNumber::new(1)?;
+    for first in [false, true] {
+        for second in [false, true] {
+            let writer = CvWriter::new(cv, 10);
+            assert!(rt;
+                writer.cv().number() == 1 && writer.value() == 10 && !writer.is_verifying()
+            );
+            assert!(rt; is_hex(writer.question().frame().bytes(), "7c000a76"));
+            let Writing::More(writer) = writer.answer(first) else {
+                panic!(rt; "a second question is left")
+            };
+            assert!(rt; writer.cv().number() == 1 && writer.value() == 10 && writer.is_verifying());
+            assert!(rt; is_hex(writer.question().frame().bytes(), "74000a7e"));
+            assert!(rt; matches!(writer.answer(second), Writing::Done) == second);
+        }
+    }
+    let restored = CvWriter::restore(cv, 11, true);
+    assert!(rt; is_hex(restored.question().frame().bytes(), "74000b7f"));
+    let restored = CvWriter::restore(cv, 11, false);
+    assert!(rt; is_hex(restored.question().frame().bytes(), "7c000b77"));
     Ok(())
 }

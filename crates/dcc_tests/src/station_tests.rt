@@ -2,6 +2,7 @@
 
 use crate::rows::{column, number};
 use dcc_packet::Packet;
+use dcc_regs::address_of;
 use dcc_station::*;
 use std::process::Abort;
 use std::test::Fail;
@@ -13,8 +14,11 @@ fn line_of(letter: &str) -> &'static str {
         "A" => "frame 036261",
         "B" => "frame 03b1b2",
         "C" => "frame 03a1a2",
-        // a speed for locomotive 1000
+        // a speed and functions 5 to 8 for locomotive 1000
         "L" => "frame c3e86249",
+        "M" => "frame c3e8b299",
+        // a speed for the long address 3
+        "N" => "loco l3 speed28 f 4",
         // a stop for all locomotive decoders
         "S" => "frame 006060",
         // `W` writes 2 to CV29 of locomotive 3, and `T` writes 1 to bit 5 of this CV. `V` verifies
@@ -33,7 +37,8 @@ fn line_of(letter: &str) -> &'static str {
 
 /// Makes one step of a station and asserts the result. `+A`: the station accepts command A. `-A:4`:
 /// the station refuses command A with error C4 and returns this command. `=A`: the station sends
-/// packet A. `0:1`: no command waits, and the station has one entry.
+/// packet A. `~A`: the station forgets the address of packet A. `0:1`: no command waits, and the
+/// station has one entry.
 fn go<Q: PacketRing, S: PacketRing>(
     rt: &impl Abort,
     station: &mut StationOver<Q, S>,
@@ -43,10 +48,16 @@ fn go<Q: PacketRing, S: PacketRing>(
         Some(parts) => parts,
         None => (step, "0"),
     };
-    let letter = front.trim_start_matches(['+', '-', '=']);
+    let letter = front.trim_start_matches(['+', '-', '=', '~']);
     let packet = Packet::from_line(line_of(letter))?;
     if step.starts_with('=') {
         assert!(rt; station.next().is(&packet), "{step}");
+        return Ok(());
+    }
+    if step.starts_with('~') {
+        if let Some(address) = address_of(&packet) {
+            station.forget(address);
+        }
         return Ok(());
     }
     if letter.len() == front.len() {
@@ -78,6 +89,15 @@ const STATIONS: &str = "\
     nothing_comes_between_the_copies_of_a_write | 4 | 4 | 2 | +L =L =L =L +W =W =W =W =L
     a_state_beside_a_speed | 4 | 4 | 1 | +A +U =A =U =A =A 0:1
     a_state_of_all | 4 | 4 | 2 | +Z =Z =Z =I 0:0
+    an_address_is_forgotten | 4 | 4 | 1 | +A +L +B =A =L =B 0:3 ~A 0:1 =L =L
+    other_entries_keep_their_order | 4 | 4 | 1 | +L +A +M +N =L =A =M =N =L ~A 0:3 =M =N =L =M ~L 0:1 =N =N ~N 0:0 =I
+    short_and_long_addresses_differ | 4 | 4 | 1 | +A +N =A =N ~N 0:1 =A =A ~A 0:0 =I
+    an_address_without_entries_changes_nothing | 4 | 4 | 1 | +A +B =A =B =A ~L ~S 0:2 =B =A =B
+    remaining_copies_are_sent_after_forgetting | 4 | 4 | 3 | +A =A 1:1 ~A 1:0 =A =A 0:0 =I
+    a_command_that_waits_becomes_an_entry | 4 | 4 | 2 | +L +A =L ~A 2:1 =L =A 1:2 =A =L =A
+    a_write_keeps_its_copies | 4 | 4 | 2 | +L =L =L +W =W ~A ~L 1:0 =W =W =I 0:0
+    forgotten_and_sent_again | 4 | 4 | 1 | +A =A ~A =I +A =A 0:1 =A
+    rings_go_round_and_forget | 2 | 3 | 1 | +A +L =A =L +M =M =A =L =M =A ~A 0:2 =L =M +N =N 0:3 =L =M =N ~L 0:1 =N
     rings_go_round | 2 | 3 | 1 | +A +B -C:4 =A +C =B =C 0:3 =A +L +A =L 1:3 =A +B =B =L =A =B +C +U =C =U =A =B =C
     all_of_one_station | 4 | 4 | 1 | +A =A =A +S =S =I =I +A +B +A +B -C:4 -I:3";
 

@@ -1,5 +1,5 @@
 -- How the figures of a list of half-bits grow.
-use Rattle.std.proofs.Common.{◌≡◌, ◌≢◌, ℕ, ◌+◌, ◌-◌, ◌*◌, ◌<◌, ◌≤◌, List, [], ◌∷◌, ◌++◌, length, take, map, sum}
+use Rattle.std.proofs.Common.{◌≡◌, ℕ, ◌+◌, ◌-◌, ◌*◌, ◌<◌, ◌≤◌, List, [], ◌∷◌, ◌++◌, length, take, map, sum}
 use Rattle.std.proofs.Common.{replicate}
 use Rattle.std.proofs.Common.{Option, Some, None, IfSome, refl, sym, ap, ◌∙◌, subst, arith, append_assoc, append-nil}
 use Rattle.std.proofs.Common.{length-append}
@@ -132,6 +132,20 @@ ends_more halves more place shown shows =
     ∙ ap (λ l. l ++ map end (filter_map packet_at (report_at place shown)))
     (ends_same halves more (seen halves) (places_within halves))
 
+-- halves that show nothing
+
+pub bits_quiet : (halves more : List ℕ) → seen (halves ++ more) ≡ seen halves
+    → packet_bits_in (halves ++ more) ≡ packet_bits_in halves
+unfolding report_at
+bits_quiet halves more quiet =
+    bits_more halves more 0 Nothing (quiet ∙ sym (append-nil (seen halves))) ∙ append-nil (packet_bits_in halves)
+
+pub ends_quiet : (halves more : List ℕ) → seen (halves ++ more) ≡ seen halves
+    → ends_in (halves ++ more) ≡ ends_in halves
+unfolding report_at
+ends_quiet halves more quiet =
+    ends_more halves more 0 Nothing (quiet ∙ sym (append-nil (seen halves))) ∙ append-nil (ends_in halves)
+
 bits_here : (halves front later : List ℕ) (place : ℕ) (shown : Seen) → halves ≡ front ++ later
     → length front ≡ place + 1
     → flat_map (packet_bits_of halves) (filter_map packet_at (report_at place shown))
@@ -180,6 +194,11 @@ run_on halves us i n within =
     append_assoc halves (replicate i us) (replicate (n - i) us)
     ∙ ap (λ l. halves ++ l) (replicate-append-replicate i (n - i) us ∙ ap (λ k. replicate k us) all)
 
+pub run_next : (halves : List ℕ) (us n : ℕ)
+    → (halves ++ replicate n us) ++ us ∷ [] ≡ halves ++ replicate (n + 1) us
+run_next halves us n =
+    append_assoc halves (replicate n us) (us ∷ []) ∙ ap (λ l. halves ++ l) (replicate-append-replicate n 1 us)
+
 pub sum_run : (halves : List ℕ) (n us : ℕ) → sum (halves ++ replicate n us) ≡ sum halves + n * us
 sum_run halves n us =
     sum_by-append (λ x. x) halves (replicate n us) ∙ ap (λ k. sum halves + k) (sum_by-replicate (λ x. x) n us)
@@ -227,11 +246,3 @@ pub time_run : (halves : List ℕ) (n us time count one : ℕ) → time ≡ sum 
 time_run halves n us time count one is all each =
     ap (λ k. k + count * one) is ∙ ap (λ k. sum halves + k * one) all ∙ ap (λ k. sum halves + n * k) each
     ∙ sym (sum_run halves n us)
-
--- what is shown stands at one of the halves of a run
-pub some_half : (n at : ℕ) (shown : Seen) → 0 < n → (shown ≡ Nothing → at ≡ n)
-    → (shown ≢ Nothing → (1 ≤ at) × (at ≤ n)) → (1 ≤ at) × (at ≤ n)
-some_half n at Nothing some nothing something =
-    let all = nothing refl in (omega (arith, all, some), omega (arith, all))
-some_half n at (Packet bytes) some nothing something = something (λ none. cc)
-some_half n at (Refused fault) some nothing something = something (λ none. cc)

@@ -58,4 +58,16 @@ impl Classes {
             _ => self.above.add(u64::from(us), n),
         }
     }
+
+    /// Adds `n` half-bits of `us` microseconds. The number `n` can be 0.
+    pub(crate) fn add_run(&mut self, us: u16, n: u32)
+        requires { classes_count self.old + n < 2 ^ 40 }
+        ensures classes { (halves : List ℕ) → AreClasses self.old halves
+            → AreClasses self.new (halves ++ replicate n us) }
+        ensures count { classes_count self.new ≡ classes_count self.old + n }
+    {
+        if n > 0 {
+            self.add(us, n);
+        }
+    }
 }

@@ -12,7 +12,7 @@ use crate::classes::Classes;
 use crate::outcomes::Outcomes;
 use crate::packets::Packets;
 use crate::recent::LastNumbers;
-use dcc_wire::{Framer, KeptFramer, RunSeen, Seen};
+use dcc_wire::{Framer, KeptFramer, Seen};
 
 /// The statistics of a list of half-bits, which show how near a track is to the limits of NMRA
 /// S-9.1.
@@ -41,8 +41,10 @@ pub struct Timings {
 
 impl Timings {
     ghost use Rattle.std.specs.Prelude.{◌≡◌, ◌<◌, ◌+◌, ◌^◌, ℕ, List, [], ◌++◌, length, replicate, sum};
-    ghost use Rattle.std.specs.Prelude.{◌∷◌};
-    ghost use Rattle.dcc_wire.specs.Framing.{is_hunting, report_at, rest, seen};
+    ghost use Rattle.std.specs.Prelude.{◌∷◌, ◌↔◌, IsTrue, false};
+    ghost use Rattle.dcc_wire.specs.Framing.{Hunting, is_hunting, report_at, rest, seen};
+    ghost use Rattle.dcc_wire.specs.Half.{class_of};
+    ghost use Rattle.dcc_wire.specs.Runs.{still_ones};
     ghost use Rattle.dcc_timing.specs.Numbers.{keep_last};
     ghost use Rattle.dcc_timing.specs.Classes.{AreClasses};
     ghost use Rattle.dcc_timing.specs.Outcomes.{AreOutcomes};
@@ -90,6 +92,46 @@ impl Timings {
         seen
     }
 
+    /// Removes all half-bits from the list.
+    pub fn clear(&mut self)
+        ensures { Measures self.new [] }
+    {
+        self.halves = 0;
+        self.time = 0;
+        self.classes = Classes::new();
+        self.outcomes = Outcomes::new();
+        self.packets = Packets::new();
+        self.framer = Framer::new().keep();
+        self.recent.clear();
+    }
+
+    /// Appends `n` half-bits of `us` microseconds to the list if these half-bits have no outcome and
+    /// do not change the state of the framer. Otherwise returns false, and nothing changes. The
+    /// longer list must have fewer than 2^32 half-bits.
+    ///
+    /// The time of a call does not depend on `n`.
+    pub fn pass_run(&mut self, us: u16, n: u32) -> bool
+        requires { self.old.halves + n < 2 ^ 32 }
+        // Some list has the old statistics.
+        ensures history { ∥ ((halves : List ℕ) × Measures self.old halves) ∥₁ }
+        // If a list has the old statistics, the list with these half-bits at its end has the new
+        // statistics.
+        ensures measures { IsTrue result → (halves : List ℕ) → Measures self.old halves
+            → Measures self.new (halves ++ replicate n us) }
+        ensures count { IsTrue result → self.new.halves ≡ self.old.halves + n }
+        ensures left { result ≡ false → self.new ≡ self.old }
+        ensures still { IsTrue result ↔ (kept_rest self.old.framer ≡ Hunting (still_ones (class_of us))) }
+    {
+        if !self.framer.stays(us) {
+            return false;
+        }
+        self.halves += n;
+        self.time += u64::from(n) * u64::from(us);
+        self.classes.add_run(us, n);
+        self.recent.take(us, n);
+        true
+    }
+
     /// Appends `n` half-bits of `us` microseconds to the list. The longer list must have fewer than
     /// 2^32 half-bits.
     ///
@@ -104,18 +146,14 @@ impl Timings {
         ensures measures { (halves : List ℕ) → Measures self.old halves → Measures self.new (halves ++ replicate n us) }
         ensures count { self.new.halves ≡ self.old.halves + n }
     {
-        if n == 0 {
-            return;
+        let mut taken = 0;
+        'run: while taken < n {
+            if self.pass_run(us, n - taken) {
+                return;
+            }
+            let _ = self.push(us);
+            taken += 1;
         }
-        let shown = push_run(&mut self.framer, us, n);
-        self.halves += n;
-        self.classes.add(us, n);
-        self.outcomes.add(&shown.seen);
-        self.recent.take(us, shown.at);
-        let end = self.time + u64::from(shown.at) * u64::from(us);
-        self.packets.add(&shown.seen, end, &self.recent);
-        self.recent.take(us, n - shown.at);
-        self.time += u64::from(n) * u64::from(us);
     }
 
     /// Returns the number of half-bits in the list.
@@ -182,7 +220,7 @@ impl Timings {
     }
 }
 
-ghost use Rattle.std.specs.Prelude.{◌≡◌, ◌≢◌, ◌+◌, ◌-◌, [], ◌∷◌, ◌++◌, length, replicate};
+ghost use Rattle.std.specs.Prelude.{◌≡◌, [], ◌∷◌, ◌++◌, length};
 ghost use Rattle.dcc_wire.specs.Framing.{StandsFor, seen, report_at};
 
 /// Takes a half-bit of `us` microseconds, with the contract of `KeptFramer::push`. Only few
@@ -215,21 +253,4 @@ fn push_apart(framer: &mut KeptFramer, us: u16) -> Seen
     let seen = inner.push(us);
     *framer = inner.keep();
     seen
-}
-
-/// Takes `n` half-bits of `us` microseconds, with the contract of `Framer::push_run`.
-fn push_run(framer: &mut KeptFramer, us: u16, n: u32) -> RunSeen
-    ensures history { (durations : List ℕ) × StandsFor (kept_rest framer.old) durations }
-    ensures stands { (durations : List ℕ) → StandsFor (kept_rest framer.old) durations
-        → StandsFor (kept_rest framer.new) (durations ++ replicate n us) }
-    ensures sees { (durations : List ℕ) → StandsFor (kept_rest framer.old) durations
-        → seen (durations ++ replicate n us) ≡ seen durations
-        ++ report_at (length durations + result.at - 1) result.seen }
-    ensures nothing { result.seen ≡ Seen.Nothing → result.at ≡ n }
-    ensures something { result.seen ≢ Seen.Nothing → (1 ≤ result.at) × (result.at ≤ n) }
-{
-    let mut inner = framer.framer();
-    let shown = inner.push_run(us, n);
-    *framer = inner.keep();
-    shown
 }

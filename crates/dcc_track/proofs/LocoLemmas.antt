@@ -1,14 +1,14 @@
 -- A locomotive decoder on both tracks, with its CVs in its registers.
-use Rattle.std.proofs.Common.{◌≡◌, ℕ, ◌≤◌, Bool, true, false, List, refl, sym, ◌∙◌, ap, arith}
-use Rattle.std.specs.Prelude.{Option, None, Some, slice_set}
+use Rattle.std.proofs.Common.{◌≡◌, ◌≢◌, ℕ, ◌-◌, ◌<◌, ◌≤◌, Bool, true, false, List, refl, sym, ◌∙◌, ap, subst, arith}
+use Rattle.std.specs.Prelude.{Option, None, Some, ◌==◌, nat_le, length, slice_set}
 use mathlib.Core.Path.{fun_ext}
-use Rattle.std.proofs.lemmas.Bool.Decides.{nat_tests}
+use Rattle.std.proofs.lemmas.Bool.Decides.{nat_tests, Decides-eqb}
+use Rattle.std.proofs.lemmas.List.{get_or-set_same, get_or-set_other, length-set}
 use Rattle.dcc_packet.specs.declared.address.Address.{Address}
 use Rattle.dcc_packet.specs.declared.packet.Packet.{Packet}
 use Rattle.dcc_packet.specs.Bits.{is_one}
-use Rattle.dcc_packet.specs.Cvs.{IsCvs, cv_in}
-use Rattle.dcc_packet.proofs.BitLemmas.{is_one-byte_of}
-use Rattle.dcc_regs.specs.declared.loco_state.LocoState.{LocoState}
+use Rattle.dcc_packet.specs.Cvs.{cv_in}
+use Rattle.dcc_packet.proofs.BitLemmas.{byte_of_bits, either_by, is_one-byte_of, same_byte}
 use Rattle.dcc_regs.specs.declared.register.Register.{Register}
 use Rattle.dcc_regs.specs.declared.register.Register.TheVariants.{CvBit}
 use Rattle.dcc_regs.specs.declared.register.Value.{Value}
@@ -16,16 +16,15 @@ use Rattle.dcc_regs.specs.declared.register.Value.TheVariants.{Speed as SpeedVal
 use Rattle.dcc_regs.specs.declared.register.Value.TheVariants.{Pending as PendingValue}
 use Rattle.dcc_regs.specs.declared.register.Who.{Who}
 use Rattle.dcc_regs.specs.declared.register.Who.TheVariants.{Loco as LocoWho}
-use Rattle.dcc_regs.specs.Loco.{cv_held, holds_one, is_byte_write, is_cv_bit, powered_up, start_map, start_who}
-use Rattle.dcc_regs.specs.LocoState.{loco_map, loco_who}
+use Rattle.dcc_regs.specs.Loco.{cv_held, holds_one, is_byte_write, is_cv_bit, powered_up, start_map, start_who, with_cv}
 use Rattle.dcc_regs.specs.Possible.{IsPossible, may_hold}
 use Rattle.dcc_regs.specs.Result.{RegisterMap, step}
 use Rattle.dcc_regs.proofs.CvLemmas.{active_address-same}
 use Rattle.dcc_track.specs.DecoderState.{DecoderState, HasCvs, after_packet, after_power_up, registers_with_cvs}
 use Rattle.dcc_track.specs.DecoderState.{with_new_cvs}
 use Rattle.dcc_track.specs.LocoDecoders.{cvs_held, loco_on_tracks}
-use Rattle.dcc_track.proofs.HeldCvs.{cv_in-held, held_bytes, held_is, held_state, length-held}
-use Rattle.dcc_track.proofs.MainWrites.{flag_held, held_after}
+use Rattle.dcc_track.proofs.HeldCvs.{cv_in-held, held_bytes, held_is, length-held}
+use Rattle.dcc_track.proofs.MainWrites.{flag_held, held_after, not_same}
 
 -- a register that is no bit of a CV holds nothing
 none_held : (active : Option Address) (cv place : ℕ) (held : Option Value)
@@ -95,26 +94,53 @@ loco_restarted active m m' who' new powered =
       cvs = cvs;
     }) (cvs_restarted m)
 
-abbrev state_with : LocoState → List ℕ → LocoState
-state_with s cvs = record s { cvs = cvs }
+flag_one : (one : Bool) → holds_one (Some (Flag one)) ≡ one
+flag_one true = refl
+flag_one false = refl
 
-register_set : (s : LocoState) (cvs : List ℕ) (active : Option Address) (r : Register)
-    → loco_map (state_with s cvs) r ≡ registers_with_cvs (LocoWho active) (loco_map s) cvs r
-register_set s cvs active (CvBit cv place) = refl
-register_set s cvs active r = refl
+-- the CVs after one CV was set
+cvs_set : (m : RegisterMap) (n value : ℕ) → 1 ≤ n → n ≤ 1024 → value < 256
+    → cvs_held (with_cv m n value) ≡ slice_set (cvs_held m) (n - 1) value
+cvs_set m n value from to small =
+    let count : length (cvs_held m) ≡ 1024 = length-held m in
+    held_is (with_cv m n value) (slice_set (cvs_held m) (n - 1) value)
+    (length-set (cvs_held m) (n - 1) value ∙ length-held m)
+    (λ k low high.
+    either_by k n (k == n) refl
+    (λ same.
+    let e : (k == n) ≡ true = (Decides-eqb k n).1 same in
+    let set : cv_in (slice_set (cvs_held m) (n - 1) value) n ≡ value =
+    get_or-set_same (cvs_held m) (n - 1) value 0 (omega arith) in
+    same_byte (λ place. holds_one (with_cv m n value (CvBit k place))) (is_one value)
+    (λ place le.
+    let low_bit : nat_le place 7 ≡ true = grind (arith, nat_tests) in
+    rw (e, low_bit) (flag_one (is_one value place)))
+    ∙ byte_of_bits value small
+    ∙ sym (subst (λ (i : ℕ). cv_in (slice_set (cvs_held m) (n - 1) value) i ≡ value) (sym same) set))
+    (λ other.
+    let e : (k == n) ≡ false = not_same k n other (k == n) refl in
+    let apart : k - 1 ≢ n - 1 = λ is. other (omega arith) in
+    same_byte (λ place. holds_one (with_cv m n value (CvBit k place))) (λ place. holds_one (m (CvBit k place)))
+    (λ place le. rw e refl)
+    ∙ sym (cv_in-held m k low high)
+    ∙ sym (get_or-set_other (cvs_held m) (n - 1) (k - 1) value 0 apart)))
 
-pub loco_cv_set : (active : Option Address) (m m' : RegisterMap) (who' : Who) (s : LocoState) (i value : ℕ)
-    → IsCvs s.cvs → IsCvs (slice_set s.cvs i value) → LocoWho active ≡ loco_who s → m ≡ loco_map s
-    → who' ≡ loco_who (state_with s (slice_set s.cvs i value))
-    → m' ≡ loco_map (state_with s (slice_set s.cvs i value))
-    → loco_on_tracks who' m' ≡ with_new_cvs (loco_on_tracks (LocoWho active) m) (slice_set (cvs_held m) i value)
-loco_cv_set active m m' who' s i value ok ok' same is new is' =
-    let cvs : List ℕ = slice_set s.cvs i value in
-    let old : cvs_held m ≡ s.cvs = ap cvs_held is ∙ held_state s ok in
-    let now : cvs_held m' ≡ cvs = ap cvs_held is' ∙ held_state (state_with s cvs) ok' in
+register_set : (active : Option Address) (m : RegisterMap) (n value : ℕ) (cvs : List ℕ) (r : Register)
+    → registers_with_cvs (LocoWho active) (with_cv m n value) cvs r ≡ registers_with_cvs (LocoWho active) m cvs r
+register_set active m n value cvs (CvBit cv place) = refl
+register_set active m n value cvs r = refl
+
+pub loco_cv_set : (active : Option Address) (m m' : RegisterMap) (who' : Who) (n value : ℕ)
+    → IsPossible who' m' → 1 ≤ n → n ≤ 1024 → value < 256 → who' ≡ LocoWho active → m' ≡ with_cv m n value
+    → loco_on_tracks who' m' ≡ with_new_cvs (loco_on_tracks (LocoWho active) m) (slice_set (cvs_held m) (n - 1) value)
+loco_cv_set active m m' who' n value possible from to small same is =
+    let cvs : List ℕ = slice_set (cvs_held m) (n - 1) value in
+    let now : cvs_held m' ≡ cvs = ap cvs_held is ∙ cvs_set m n value from to small in
+    let here : IsPossible (LocoWho active) m' = subst (λ (who : Who). IsPossible who m') same possible in
     let registers : m' ≡ registers_with_cvs (LocoWho active) m cvs =
-    is' ∙ fun_ext (register_set s cvs active)
-    ∙ ap (λ (n : RegisterMap). registers_with_cvs (LocoWho active) n cvs) (sym is) in
-    ap (λ (who : Who). loco_on_tracks who m') (new ∙ sym same) ∙ ap (λ (l : List ℕ). loco_with active l m') now
+    sym (fun_ext (held_register active m' here))
+    ∙ ap (λ (l : List ℕ). registers_with_cvs (LocoWho active) m' l) now
+    ∙ ap (λ (map : RegisterMap). registers_with_cvs (LocoWho active) map cvs) is
+    ∙ fun_ext (register_set active m n value cvs) in
+    ap (λ (who : Who). loco_on_tracks who m') same ∙ ap (λ (l : List ℕ). loco_with active l m') now
     ∙ ap (loco_with active cvs) registers
-    ∙ ap (λ (l : List ℕ). with_new_cvs (loco_on_tracks (LocoWho active) m) (slice_set l i value)) (sym old)

@@ -87,7 +87,7 @@ length_by true (Some (Byte cv value)) cvs = length_written (is_writable cv) cvs 
 length_by true (Some (OneBit cv bits one)) cvs =
     length_written (is_writable cv) cvs (cv.number - 1) (with_bit (cv_in cvs cv.number) bits.place one)
 
-not_same : (n m : ℕ) → n ≢ m → (t : Bool) → (n == m) ≡ t → (n == m) ≡ false
+pub not_same : (n m : ℕ) → n ≢ m → (t : Bool) → (n == m) ≡ t → (n == m) ≡ false
 not_same n m ne true e = absurd (ne ((Decides-eqb n m).0 e))
 not_same n m ne false e = e
 

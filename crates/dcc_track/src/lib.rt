@@ -6,7 +6,9 @@
 
 mod answer;
 mod board;
+mod board_steps;
 mod both_tracks;
+mod in_parts;
 pub mod laws;
 mod loco;
 mod main_track;
@@ -17,5 +19,7 @@ mod track;
 
 pub use answer::TrackAnswer;
 pub use board::BoardWithCvs;
+pub use board_steps::{board_after_packet, board_after_power_up, board_with_cvs};
+pub use in_parts::{end_service_in_parts, hear_in_parts};
 pub use programmable::Programmable;
 pub use track::TrackDecoder;

@@ -5,7 +5,7 @@ ghost use Rattle.dcc_track.specs.LocoDecoders.{loco_on_tracks};
 
 use crate::programmable::Programmable;
 use crate::track::TrackDecoder;
-use dcc_packet::{CvNumber, Packet, lemma_cvs};
+use dcc_packet::{CvNumber, Packet};
 use dcc_regs::{Decoder, PackedLoco, Who, is_own_write};
 use dcc_service::ServiceProgress;
 
@@ -46,14 +46,9 @@ impl Programmable for PackedLoco {
     }
 
     fn set_cv(&mut self, cv: CvNumber, value: u8) {
-        // (a locomotive decoder gives out its CVs only as part of its state)
-        let mut state = self.state();
-        lemma_cvs(&state.cvs);
-        state.cvs[usize::from(cv.number()) - 1] = value;
-        lemma_cvs(&state.cvs);
-        if let Ok(decoder) = PackedLoco::restore(&state) {
-            *self = decoder;
-        }
+        PackedLoco::set_cv(self, cv, value);
+        // (for the proof: the registers are possible)
+        let _ = self.who();
     }
 
     fn restart(&mut self) {

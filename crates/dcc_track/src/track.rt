@@ -1,8 +1,7 @@
 //! A decoder on the main track and on the programming track.
 
 use crate::answer::TrackAnswer;
-use crate::both_tracks::{hear_on_both, restart_if};
-use crate::main_track::hear_on_main;
+use crate::in_parts::{end_service_in_parts, hear_in_parts};
 use crate::programmable::Programmable;
 use dcc_service::ServiceProgress;
 use dcc_wire::Frame;
@@ -67,16 +66,11 @@ impl<D: Programmable> TrackDecoder<D> {
     pub fn hear(&mut self, frame: &Frame) -> TrackAnswer
         ensures { HearsFrame (track_of D.state self.old) frame.now (track_of D.state self.new) result }
     {
-        if self.main_only {
-            return TrackAnswer {
-                acknowledged: false,
-                changed: hear_on_main(&mut self.decoder, frame),
-            };
-        }
-        hear_on_both(
+        hear_in_parts(
             &mut self.decoder,
             &mut self.progress,
             &mut self.changed,
+            self.main_only,
             frame,
         )
     }
@@ -87,9 +81,7 @@ impl<D: Programmable> TrackDecoder<D> {
     pub fn end_service(&mut self)
         ensures { track_of D.state self.new ≡ service_ended (track_of D.state self.old) }
     {
-        restart_if(&mut self.decoder, self.progress.in_service & self.changed);
-        self.progress = ServiceProgress::new();
-        self.changed = false;
+        end_service_in_parts(&mut self.decoder, &mut self.progress, &mut self.changed);
     }
 
     /// Keeps the decoder on the main track if `main_only` is true. Then no frame enters service mode,

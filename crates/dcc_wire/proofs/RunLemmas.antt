@@ -12,7 +12,7 @@ use Rattle.dcc_wire.specs.Framing.{Rest, Hunting, InBody, rest, seen, report_at,
 use Rattle.dcc_wire.specs.Half.{class_of}
 use Rattle.dcc_wire.specs.Inner.Steps.{rest_after, answer_to}
 use Rattle.dcc_wire.specs.Outcomes.{ones_left}
-use Rattle.dcc_wire.specs.Runs.{IsQuietFor, PushesRun, rest_after_run, ones_after, IsQuiet}
+use Rattle.dcc_wire.specs.Runs.{IsQuietFor, PushesRun, rest_after_run, ones_after, IsQuiet, still_ones}
 use Rattle.dcc_wire.proofs.FramingLemmas.{rest-push, seen-push}
 use Rattle.dcc_wire.proofs.HistoryLemmas.{HasHistory, microseconds, class_of-microseconds}
 use Rattle.dcc_wire.proofs.OutcomeLemmas.{ones_left_le}
@@ -58,6 +58,23 @@ skips (suc n) us durations ones quiet hunts =
       open_part = rw replicate_more (ih.open_part ∙ ap Hunting (counts_on half ones n));
       outcomes = rw replicate_more (ih.outcomes ∙ seen-push durations us ∙ rw hunts (append-nil (seen durations)));
     }
+
+-- a count of ones that stays the same
+still_quiet : (half : Half) → IsQuiet (still_ones half) half
+unfolding still_ones
+still_quiet half = grind arith
+
+still_after : (half : Half) (n : ℕ) → ones_after (still_ones half) half n ≡ still_ones half
+unfolding still_ones ones_after
+still_after half n = grind arith
+
+pub skips_still : (n us : ℕ) (durations : List ℕ) → rest durations ≡ Hunting (still_ones (class_of us))
+    → (rest (durations ++ replicate n us) ≡ Hunting (still_ones (class_of us)))
+    × (seen (durations ++ replicate n us) ≡ seen durations)
+skips_still n us durations hunts =
+    let half = class_of us in
+    let w = skips n us durations (still_ones half) (still_quiet half) hunts in
+    (w.open_part ∙ ap Hunting (still_after half n), w.outcomes)
 
 -- halves that show nothing are told by their count alone
 pub skip_history : (ones : ℕ) (half : Half) (n : ℕ) → IsQuiet ones half → HasHistory (Hunting ones)

@@ -26,6 +26,12 @@ ones_after ones One (suc n) = min 20 (ones + suc n)
 ones_after ones Zero (suc n) = 0
 ones_after ones Bad (suc n) = 0
 
+-- the number of half-bits of ones, at most 20, that stays the same after half-bits of class `half`
+unfoldable pub still_ones : Half → ℕ
+still_ones One = 20
+still_ones Zero = 0
+still_ones Bad = 0
+
 -- the state of a framer between two bodies after a run of `n` half-bits of class `half`
 unfoldable pub rest_after_run : Rest → Half → ℕ → Rest
 rest_after_run (Hunting ones) half n = Hunting (ones_after ones half n)

@@ -167,7 +167,7 @@ impl Framer {
 ghost use Rattle.std.specs.Prelude.{◌≡◌, ◌∷◌, [], false, IsTrue};
 ghost use Rattle.dcc_wire.specs.Framing.{Hunting, InBody};
 ghost use Rattle.dcc_wire.specs.Inner.Steps.{rest_after};
-ghost use Rattle.dcc_wire.specs.Runs.{IsQuiet, ones_after};
+ghost use Rattle.dcc_wire.specs.Runs.{IsQuiet, ones_after, still_ones};
 
 /// Returns true if a half-bit of the class `half` begins a body after `ones` half-bits of ones. The
 /// number `ones` is counted up to 20.
@@ -206,4 +206,13 @@ fn count_on(ones: u8, half: Half, n: u32) -> u8
         Half::One => n.saturating_add(u32::from(ones)).min(20) as u8,
         Half::Zero | Half::Bad => 0,
     }
+}
+
+/// Returns the number of half-bits of ones, counted up to 20, that stays the same after half-bits of
+/// the class `half`.
+#[tactic(auto, unfolding(crate::specs::Runs::still_ones))]
+pub(crate) fn still_ones(half: Half) -> u8
+    ensures { result ≡ still_ones half }
+{
+    if half == Half::One { 20 } else { 0 }
 }

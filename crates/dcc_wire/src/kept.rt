@@ -4,7 +4,7 @@ ghost use Rattle.std.specs.Prelude.{◌≡◌};
 ghost use Rattle.dcc_wire.specs.Kept.{kept_rest};
 
 use crate::bytes::PacketBytes;
-use crate::framer::{State, begins_body, counted};
+use crate::framer::{State, begins_body, counted, still_ones};
 use crate::open_body::OpenBody;
 use crate::packed_bits::PackedBits;
 use crate::{Fault, Framer, Half, Seen};
@@ -74,7 +74,9 @@ impl Model for KeptFramer {
 
 impl KeptFramer {
     ghost use Rattle.std.specs.Prelude.{◌≡◌, ◌≢◌, ◌↔◌, ℕ, List, ◌++◌, [], ◌∷◌, Some, length, IsTrue, true, false};
-    ghost use Rattle.dcc_wire.specs.Half.{bit_of};
+    ghost use Rattle.std.specs.Prelude.{replicate};
+    ghost use Rattle.dcc_wire.specs.Half.{bit_of, class_of};
+    ghost use Rattle.dcc_wire.specs.Runs.{still_ones};
     ghost use Rattle.dcc_wire.specs.Outcomes.{ones_left};
     ghost use Rattle.dcc_wire.specs.Framing.{Hunting, InBody, StandsFor, is_hunting, seen, report_at};
     ghost use Rattle.dcc_wire.specs.Inner.Steps.{rest_after, answer_to};
@@ -278,6 +280,19 @@ impl KeptFramer {
         ensures { result ≡ is_hunting (kept_rest self.now) }
     {
         !self.in_body
+    }
+
+    /// Returns true if half-bits of `us` microseconds change nothing, whatever their number: they
+    /// have no outcome, and the state stays the same.
+    #[tactic(auto, unfolding(crate::specs::Framing::StandsFor), using(crate::proofs::RunLemmas::skips_still))]
+    pub fn stays(&self, us: u16) -> bool
+        ensures still { IsTrue result ↔ (kept_rest self.now ≡ Hunting (still_ones (class_of us))) }
+        ensures stands { IsTrue result → (durations : List ℕ) (n : ℕ) → StandsFor (kept_rest self.now) durations
+            → StandsFor (kept_rest self.now) (durations ++ replicate n us) }
+        ensures sees { IsTrue result → (durations : List ℕ) (n : ℕ) → StandsFor (kept_rest self.now) durations
+            → seen (durations ++ replicate n us) ≡ seen durations }
+    {
+        !self.in_body && self.ones == still_ones(Half::of(us))
     }
 
     /// Returns the framer with this state. The framer represents the lists of half-bits that the

@@ -1,10 +1,13 @@
-// A locomotive decoder with the short address 3, and board 12. The signal of the track comes through an optocoupler to
-// pin 49 of a Mega, pin 2 of other boards (DccEdges.h). A motor is at pin 3 and a lamp at pin 13. The CVs take two
-// kilobytes of memory, so the sketch needs more than an Uno has.
+// A locomotive decoder with the short address 3, and board 12. A station programs the locomotive on the main track and
+// on the programming track.
+//
+// The signal of the track comes through an optocoupler to pin 49 of a Mega, pin 2 of other boards (DccEdges.h). A motor
+// is at pin 3 and a lamp at pin 13. At an acknowledgement, ACK_PIN is high for 6 milliseconds, and a transistor draws
+// 60 mA from the track. The CVs take a kilobyte of memory, so the sketch needs more than an Uno has.
 #include <DccDecoder.h>
 #include <DccEdges.h>
 
-const uint8_t MOTOR = 3, LAMP = 13;
+const uint8_t MOTOR = 3, LAMP = 13, ACK_PIN = 12;
 DccDecoder decoder;
 
 void onHalfBit(uint16_t us) { decoder.halfBit(us); }
@@ -30,6 +33,14 @@ void notifyCVChange(uint16_t cv, uint8_t value) {
     Serial.println(value);
 }
 
+void notifyCVAck() {
+    digitalWrite(ACK_PIN, HIGH);
+    delay(6);
+    digitalWrite(ACK_PIN, LOW);
+}
+
+void notifyServiceMode(bool isInService) { Serial.println(isInService ? "service mode" : "main track"); }
+
 void notifyDccAccTurnoutBoard(uint16_t board, uint8_t pair, uint8_t direction, uint8_t power) {
     Serial.print("board ");
     Serial.print(board);
@@ -40,12 +51,12 @@ void notifyDccAccTurnoutBoard(uint16_t board, uint8_t pair, uint8_t direction, u
 }
 
 void setup() {
-    static uint8_t cvs[DCC_CVS];
-    cvs[0] = 3;   // CV1: the short address
-    cvs[28] = 2;  // CV29: 28 steps
     Serial.begin(115200);
     pinMode(LAMP, OUTPUT);
-    decoder.begin(cvs, micros(), 12);
+    pinMode(ACK_PIN, OUTPUT);
+    decoder.state.loco.cvs[0] = 3;   // CV1: the short address
+    decoder.state.loco.cvs[28] = 2;  // CV29: 28 steps
+    decoder.powerUp(micros(), 12);
     beginEdges();
 }
 

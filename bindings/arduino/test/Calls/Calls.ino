@@ -31,8 +31,16 @@ void notifyDccFunc(uint8_t function, bool on) { tell(on ? "function on" : "funct
 void notifyDccState(uint8_t state, bool on) { tell(on ? "state on" : "state off", state); }
 void notifyCVChange(uint16_t cv, uint8_t value) { tell("cv", cv, value); }
 void notifyDccReset() { tell("reset", -1); }
+void notifyCVAck() { tell("acknowledged", -1); }
+void notifyServiceMode(bool isInService) { tell(isInService ? "service mode" : "main track", -1); }
 void notifyDccAccTurnoutBoard(uint16_t board, uint8_t pair, uint8_t direction, uint8_t power) {
     tell("turnout", board, pair, direction, power);
+}
+void notifyDccAccTurnoutOutput(uint16_t address, uint8_t direction, uint8_t power) {
+    tell("output", address, direction, power);
+}
+void notifyDccAccOutputChange(uint16_t board, uint8_t output, bool on) {
+    tell(on ? "changed on" : "changed off", board, output);
 }
 void notifyDccSigOutputState(uint16_t address, uint8_t aspect) { tell("signal", address, aspect); }
 

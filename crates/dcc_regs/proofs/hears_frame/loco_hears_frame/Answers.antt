@@ -1,4 +1,4 @@
-use Rattle.std.proofs.Common.{◌∙◌, ap, arith, ◌≡◌, ◌≤◌, List, ℕ, length, Bool, Option}
+use Rattle.std.proofs.Common.{◌∙◌, ap, arith, ◌≡◌, ◌≤◌, List, ℕ, length, Option}
 use Rattle.std.specs.Prelude.{◌||◌, ◌==◌, slice_index}
 use Rattle.std.proofs.lemmas.Bool.Decides.{nat_tests}
 use Rattle.dcc_packet.specs.declared.address.Address.{Address}

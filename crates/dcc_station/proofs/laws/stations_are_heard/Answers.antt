@@ -15,6 +15,8 @@ returns c = record {
   };
   accepted = λ s new commands p who who' start now h accepts.
       record { packets = h.packets; stands = accepts h.packets h.stands; heard = h.heard };
+  forgotten = λ s new commands who who' start now h forgets.
+      record { packets = h.packets; stands = forgets h.packets h.stands; heard = h.heard };
   intended = λ s commands who who' start now register h none but.
       ap (λ (m : RegisterMap). m register) h.heard.registers
       ∙ refresh_all s commands h.packets h.stands none who start register but;

@@ -1,4 +1,4 @@
-use Rattle.std.proofs.Common.{◌≡◌, List, ℕ, ◌++◌, ◌∷◌, [], ◌∙◌, arith, false, refl}
+use Rattle.std.proofs.Common.{◌≡◌, List, ℕ, ◌++◌, ◌∷◌, [], arith, false, refl}
 use Rattle.std.proofs.Math.Logic.{∥∥₁_map}
 use Rattle.dcc_timing.specs.Recent.{recent_numbers}
 use Rattle.dcc_lost.specs.Figures.{AreTrackFigures}

@@ -6,7 +6,7 @@ use Rattle.dcc_regs.specs.PackedBoard.{packed_content}
 use Rattle.dcc_regs.specs.BoardState.{board_map, board_who}
 use Rattle.dcc_regs.specs.Result.{RegisterMap, step}
 use Rattle.dcc_track.proofs.BoardLemmas.{same_step}
-use Rattle.dcc_track.proofs.board.heard.Goals as goal
+use Rattle.dcc_track.proofs.board_steps.heard.Goals as goal
 
 pub returns-clause-registers : goal.returns-clause-registers
 returns-clause-registers c =
