@@ -5,8 +5,9 @@
     bench/stack.py --bounds    prints what each call takes, in the form of bench/stack.bounds
 
 It needs crates/dcc_c/out/libdcc_c.a with dcc_c.su beside it (tools/c-library), and objdump. Frames have a fixed
-size, and no function is called by a pointer or by itself, so the most that a call takes is its deepest path through
-the calls. A return address counts as 8 bytes. memcpy, memmove and memset are of the caller's C library and count as 0.
+size, and no function is called by a pointer, so the most that a call takes is its deepest path through the calls. A
+function that calls itself counts as often as DEPTHS says, and a function that is not named there must not call itself.
+A return address counts as 8 bytes. memcpy, memmove and memset are of the caller's C library and count as 0.
 """
 import os
 import re
@@ -18,8 +19,11 @@ BENCH = os.path.dirname(os.path.abspath(__file__))
 OUT = os.environ.get("OUT", f"{os.path.dirname(BENCH)}/crates/dcc_c/out")
 BOUNDS = os.environ.get("BOUNDS", f"{BENCH}/stack.bounds")
 RETURN = 8
+# the most calls of a function that calls itself: a number of 16 bits has at most five digits
+DEPTHS = {"dcc_packet::to_line_word::put_digits": 5}
 FUNCTION = re.compile(r"[0-9a-f]+ <(.*)>:$")
-CALLED = re.compile(r": R_X86_64_(?:PLT32|PC32)\t(\S+?)(?:-0x[0-9a-f]+)?$")
+# (a call of a function of the same file can name the section of the function)
+CALLED = re.compile(r": R_X86_64_(?:PLT32|PC32)\t(?:\.text\.)?(\S.*?)(?:-0x[0-9a-f]+)?$")
 
 
 def frames():
@@ -35,7 +39,8 @@ def calls(names):
     """The functions that each function calls or ends in."""
     told = subprocess.run(["objdump", "-dr", f"{OUT}/libdcc_c.a"], capture_output=True, text=True, check=True).stdout
     found, name = {}, ""
-    for line in told.split("\n"):
+    lines = told.split("\n")
+    for line, behind in zip(lines, [*lines[1:], ""]):
         if function := FUNCTION.match(line):
             name = function[1]
             found[name] = set()
@@ -43,6 +48,10 @@ def calls(names):
             found[name].add(called[1])
         elif re.search(r"\tcall\s+\*", line):
             sys.exit(f"stack: {name} calls by a pointer")
+        elif re.search(r"\tcall\s", line) and line.endswith(f" <{name}>") and ": R_" not in behind:
+            found[name].add(name)
+    if loops := [name for name in found if name in found[name] and name not in DEPTHS]:
+        sys.exit(f"stack: functions that call themselves: {loops}")
     return found
 
 
@@ -50,10 +59,11 @@ def main():
     own = frames()
     called = calls(own)
 
-    # (a function that calls itself would not end here)
     @cache
     def most(name):
-        return own[name] + max((RETURN + most(it) for it in called[name] if it != name), default=0)
+        times = DEPTHS[name] if name in called[name] else 1
+        deeper = max((RETURN + most(it) for it in called[name] if it != name), default=0)
+        return times * own[name] + (times - 1) * RETURN + deeper
 
     took = {name: most(name) for name in sorted(own) if name.startswith("dcc_") and "::" not in name}
     if "--bounds" in sys.argv:

@@ -18,8 +18,8 @@
  * - The fields of a dcc_decoder and a dcc_board_decoder may be read. Of these fields, only the bytes of cvs may be
  *   written. A program may pass the dcc_loco or the dcc_board in them to the functions that change nothing.
  * - The fields of all other objects may be read and changed. A function returns 13 if the fields that it reads are
- *   impossible for a decoder, a reading or a writing. The fields of a dcc_timing and of a dcc_service_packet may have
- *   any values. A bool is 0 or 1.
+ *   impossible for a decoder, a reading or a writing. The fields of a dcc_timing, a dcc_packet, a
+ *   dcc_service_packet and a dcc_functions may have any values. A bool is 0 or 1.
  * - Pointers are not null, are aligned, and point to as many items as the function says. A pointer is not null even
  *   if a length is 0.
  * - The objects and arrays of one call do not overlap.
@@ -173,6 +173,12 @@ uint8_t dcc_lost_push(dcc_lost *finder, uint16_t us, dcc_lost_packet *packet);
  * returns 0 and leaves *packet unchanged. */
 uint32_t dcc_lost_push_run(dcc_lost *finder, uint16_t us, uint32_t n, dcc_lost_packet *packet);
 
+/* Takes the half-bits of an array in order, as calls of dcc_lost_push would, up to the first half-bit at which a packet
+ * is lost. Writes to *taken how many half-bits the function took. If a packet is lost, returns 1 and stores the packet
+ * with its causes in *packet. Otherwise returns 0, leaves *packet unchanged, and writes len to *taken. */
+uint8_t dcc_lost_push_many(dcc_lost *finder, const uint16_t *halves, uint64_t len, dcc_lost_packet *packet,
+                           uint64_t *taken);
+
 /* ---- statistics of a track (NMRA S-9.1, S-9.2) ---- */
 
 /* A meter, which computes the statistics that `dcc timing` writes (docs/FORMATS.md). The struct is opaque: do not read
@@ -271,6 +277,21 @@ uint8_t dcc_line(const uint8_t *frame, uint64_t len, char line[DCC_LINE]);
  * The line need not end with a zero. If len also counts a zero or a line feed, this byte belongs to the last word. The
  * line is then refused with P10, or with P11 if the last word is a number. */
 uint8_t dcc_frame_of_line(const char *line, uint64_t len, dcc_frame *frame);
+
+/* Writes the frame of a packet, as dcc_read reads it. If the fields have an error, returns the number of the first
+ * error and writes nothing. The function ignores the fields that the kind of the packet does not use. The order of the
+ * errors is the order of a packet line:
+ *
+ * - 10 (P10) if there is no such kind.
+ * - RESET to CV_BIT_VERIFY: 10 if to is no kind of an address, 1 or 2 (P1, P2) if there is no such address. Then the
+ *   errors of the other fields: SPEED28, SPEED128: 8 (P8). FUNCTIONS: 10 if there is no such group, then 9 (P9) for
+ *   the bits. STATE: 14 (P14). CV_..: 6 (P6) for the CV, then 7 (P7) for the place.
+ * - ACCESSORY: 3 (P3) for the board, then 4 (P4) for the output. SIGNAL: 5 (P5).
+ *
+ * A dcc_packet has no bytes. So if the kind is DCC_OTHER, *frame has the bytes before the call. The function then
+ * returns 12 (P12) if *frame has no frame, or has the frame of a packet of another kind. Otherwise the function keeps
+ * the bytes and writes zeros after them. */
+uint8_t dcc_frame_of_packet(const dcc_packet *packet, dcc_frame *frame);
 
 /* Writes the half-bits of a preamble and of a frame in microseconds. The parameter preamble is the number of ones
  * before the frame, 14 to 40 (DCC_MAIN_TRACK, DCC_PROGRAMMING_TRACK). The half-bits of a one are 58 and 58, and the
@@ -628,7 +649,7 @@ uint8_t dcc_writer_answer(dcc_writer *writer, bool yes);
  * must be all zeros, as in `static dcc_station station;`. A station of zeros accepts no command and sends idle
  * packets. */
 typedef struct {
-    uint8_t kept[1800];
+    uint8_t kept[1801];
 } dcc_station;
 
 /* Creates a station without commands. Returns 1 (C1) and writes nothing if a parameter is outside its range:
@@ -643,16 +664,52 @@ uint8_t dcc_station_new(dcc_station *station, uint8_t queue, uint8_t slots, uint
  * command changes nothing. */
 uint8_t dcc_station_command(dcc_station *station, const uint8_t *frame, uint64_t len);
 
-/* Writes the frame to send next. If a command waits, this frame is a copy of the first waiting command. Otherwise the
- * frame is the first entry, which moves to the end of the entries. If there is no entry either, the frame is an idle
- * packet. */
+/* Writes the frame to send next. If a stop waits, this frame is a copy of the stop. Otherwise, if a command waits, the
+ * frame is a copy of the first waiting command. Otherwise the frame is the first entry, which moves to the end of the
+ * entries. If there is no entry either, the frame is an idle packet. */
 void dcc_station_next(dcc_station *station, dcc_frame *frame);
 
-/* Returns the number of waiting commands. */
+/* Removes the entries with an address of locomotives, for example when a locomotive leaves the track. The parameter to
+ * is the kind of the address, DCC_SHORT or DCC_LONG, and address is its number. The waiting commands stay, and become
+ * entries as before. No entry has the address of all locomotives, so DCC_ALL removes nothing. Returns 10 (P10) if to is
+ * no kind of an address, 1 or 2 (P1, P2) if there is no such address. In these cases nothing changes. */
+uint8_t dcc_station_forget(dcc_station *station, uint8_t to, uint16_t address);
+
+/* Stops all locomotives. The next frames are copies of 00 71 71, the emergency stop of all locomotives, as many as of
+ * a command. The directions of the locomotives stay. The function removes each waiting command that sets the speed of
+ * a locomotive to a step, and returns the number of these commands. All other commands wait until the stop is sent. If
+ * one of them was partly sent, all its copies are sent again. The stop takes no place in the queue. A stop that is
+ * called while another stop waits starts the copies again. No locomotive moves again before the station accepts a
+ * command that sets a speed to a step. */
+uint8_t dcc_station_stop(dcc_station *station);
+
+/* Returns the number of waiting commands. A stop that waits does not count. */
 uint8_t dcc_station_waiting(const dcc_station *station);
 
 /* Returns the number of entries. */
 uint8_t dcc_station_entries(const dcc_station *station);
+
+/* ---- the functions of a locomotive that a station remembers (RCN-212) ---- */
+
+/* The functions F0 to F68 of a locomotive. A packet sets all functions of a group, so a station that turns one function
+ * needs the states of the other functions of the group. If all bytes are zero, all functions are off. */
+typedef struct {
+    uint64_t on[2]; /* function F n, n from 0 to 68, is bit n % 64 of on[n / 64], as in a dcc_loco. Other bits are
+                       unused */
+} dcc_functions;
+
+/* Turns a function on or off, and writes the frame of the group of this function. The frame has the states of all
+ * functions of the group, and the address of the kind to and with the number address, as in a dcc_packet. A decoder
+ * that has the functions in *functions has them still after it hears this frame. With 14 speed steps, a decoder takes
+ * F0 from the speed packets (DCC_SPEED28), and ignores the F0 of the group.
+ *
+ * Returns 10 (P10) if to is no kind of an address, 1 or 2 (P1, P2) if there is no such address, and then 13 (P13) if
+ * the function is above 68. In these cases the function writes nothing. */
+uint8_t dcc_functions_turn(dcc_functions *functions, uint8_t to, uint16_t address, uint8_t function, bool on,
+                           dcc_frame *frame);
+
+/* Returns 1 if the function is on, and 0 if the function is off or above 68. */
+uint8_t dcc_functions_is_on(const dcc_functions *functions, uint8_t function);
 
 /* The assertions stop the compiler if bool or a struct does not have the size that the library expects. */
 #ifdef __cplusplus
@@ -687,7 +744,8 @@ DCC_ASSERT(sizeof(dcc_board_decoder) == 1046);
 DCC_ASSERT(sizeof(dcc_service_packet) == 6);
 DCC_ASSERT(sizeof(dcc_reader) == 4);
 DCC_ASSERT(sizeof(dcc_writer) == 4);
-DCC_ASSERT(sizeof(dcc_station) == 1800);
+DCC_ASSERT(sizeof(dcc_station) == 1801);
+DCC_ASSERT(sizeof(dcc_functions) == 16);
 
 #ifdef __cplusplus
 }

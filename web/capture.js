@@ -7,10 +7,15 @@ const LONGEST = 65535;
 /** Creates a buffer that grows without a copy. */
 const growing = (most) => new ArrayBuffer(4096, { maxByteLength: most });
 
+/** The longest half of a zero, in microseconds. */
+const LONGEST_ZERO = 10000;
+
 /** A list of half-bits. Places count from 0. */
 class Halves {
-  constructor(count = 0, buffer = growing(2 * MOST_HALVES)) {
+  constructor({ count = 0, long = 0, buffer = growing(2 * MOST_HALVES) } = {}) {
     this.count = count;
+    // the number of half-bits that are longer than half of a zero
+    this.long = long;
     this.us = new Uint16Array(buffer);
   }
 
@@ -19,10 +24,22 @@ class Halves {
     const end = this.count + n;
     if (end > MOST_HALVES) return false;
     while (end > this.us.length) this.grow();
+    if (us > LONGEST_ZERO) this.long += n;
     if (n === 1) this.us[this.count] = us;
     else this.us.fill(us, this.count, end);
     this.count = end;
     return true;
+  }
+
+  /** Adds the first n durations of a block, none of which is longer than half of a zero. Returns false if there would
+   * be too many, and then adds only as many as there may be. */
+  pushBlock(block, n) {
+    const end = Math.min(this.count + n, MOST_HALVES);
+    while (end > this.us.length) this.grow();
+    this.us.set(block.subarray(0, end - this.count), this.count);
+    const isAll = end === this.count + n;
+    this.count = end;
+    return isAll;
   }
 
   grow() {
@@ -37,11 +54,7 @@ class Halves {
 }
 
 /** Returns true if more than half of the half-bits are longer than half of a zero. */
-const isInNanoseconds = (halves) => {
-  let many = 0;
-  for (let at = 0; at < halves.count; at += 1) many += halves.us[at] > 10000;
-  return 2 * many > halves.count;
-};
+const isInNanoseconds = (halves) => 2 * halves.long > halves.count;
 
 /** A text with an error: the error code as `dcc` writes it, if it has one, and a sentence. */
 const refusal = (fault, text) => ({ fault, text });
@@ -104,18 +117,58 @@ const badWord = (bytes, line, from, to) => {
   return { refused, isTwo };
 };
 
+/** The number of half-bits of a block. A block has a fixed size, so a browser writes to it faster than to half-bits. */
+const BLOCK = 65536;
+
+const NO_NUMBER = 255;
+
+/** The numbers of two digits, by the two bytes of the digits as a little-endian number. */
+const TWO_DIGITS = new Uint8Array(65536).fill(NO_NUMBER);
+for (let tens = 0; tens < 10; tens += 1) {
+  for (let ones = 0; ones < 10; ones += 1) TWO_DIGITS[DIGIT + tens + 256 * (DIGIT + ones)] = 10 * tens + ones;
+}
+
+/** Reads durations of two or three digits from a place of a view on, up to any other word, and adds them to a block. A
+ * space or a line feed ends each of them. Returns the place after them, their number, and the number of line feeds. */
+const shortDurations = (view, from, block) => {
+  // (this loop reads almost all half-bits: it reads four bytes at once, and no branch depends on the number of digits)
+  const last = view.byteLength - 4;
+  let [at, n, lines] = [from, 0, 0];
+  while (n < BLOCK && at <= last) {
+    const word = view.getInt32(at, true);
+    const number = TWO_DIGITS[word & 0xffff];
+    const third = ((word >> 16) & 0xff) - DIGIT;
+    // 1 if the third byte can be a digit, otherwise 0
+    const more = 1 + (third >> 31);
+    const behind = (word >>> (16 + 8 * more)) & 0xff;
+    if (number === NO_NUMBER || third > 9) break;
+    if (behind === FEED) lines += 1;
+    else if (behind !== BLANK) break;
+    block[n] = number * (1 + 9 * more) + third * more;
+    n += 1;
+    at += 3 + more;
+  }
+  return [at, n, lines];
+};
+
 /** Reads a capture. Of a capture with too many bytes it reads the first bytes. The word that the limit cuts does not
  * count. */
 const readCapture = (all, tell = () => {}) => {
   const [halves, isCut] = [new Halves(), all.length > MOST_BYTES];
   const bytes = isCut ? all.subarray(0, MOST_BYTES) : all;
+  const view = new DataView(bytes.buffer, bytes.byteOffset, bytes.length);
+  const block = new Uint16Array(BLOCK);
   let line = 1;
   for (let at = 0, next = TOLD_EACH; at < bytes.length; ) {
     if (at >= next) {
       tell(at / bytes.length);
       next = at + TOLD_EACH;
     }
-    if (bytes[at] === HASH) {
+    const [end, n, lines] = shortDurations(view, at, block);
+    if (n > 0) {
+      if (!halves.pushBlock(block, n)) return { halves, refused: tooLong() };
+      [at, line] = [end, line + lines];
+    } else if (bytes[at] === HASH) {
       const feed = bytes.indexOf(FEED, at);
       at = feed < 0 ? bytes.length : feed;
     } else if (isGap(bytes[at])) {

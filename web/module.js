@@ -32,9 +32,10 @@ const checked = (call, answer) => {
 const hex = (bytes) => bytes.map((it) => it.toString(16).padStart(2, '0')).join('');
 
 class Dcc {
-  static async load(bytes) {
-    const { instance } = await WebAssembly.instantiate(bytes, {});
-    return new Dcc(instance.exports);
+  /** Takes a compiled module. Workers share the machine code of a module. */
+  static async load(module) {
+    const { exports } = await WebAssembly.instantiate(module, {});
+    return new Dcc(exports);
   }
 
   constructor(calls) {
@@ -80,20 +81,28 @@ class Dcc {
     return this.memory.subarray(at, at + n);
   }
 
+  /** Returns the length and the bytes of a frame as one number, at most 7 * 256 ** 6. */
+  numberAt(at, n) {
+    let number = n;
+    for (let i = 0; i < n; i += 1) number = 256 * number + this.memory[at + i];
+    return number;
+  }
+
   /** Returns the bytes of a frame as a list. Equal frames have one list. */
   frameAt(at, n) {
-    return this.frameOf([...this.bytesAt(at, n)]);
+    const number = this.numberAt(at, n);
+    let bytes = this.known.get(number);
+    if (!bytes) this.known.set(number, (bytes = [...this.bytesAt(at, n)]));
+    return bytes;
   }
 
   /** Returns the list that represents equal frames. */
   frameOf(bytes) {
-    const name = hex(bytes);
-    if (!this.known.has(name)) this.known.set(name, bytes);
-    return this.known.get(name);
+    this.memory.set(bytes, this.frame);
+    return this.frameAt(this.frame, bytes.length);
   }
 
-  /** Returns the outcomes of half-bits: the number of the last half-bit, from 1, its end in microseconds, the refusal
-   * or 0, and the bytes. */
+  /** Returns the outcomes of half-bits as packOutcomes does. */
   outcomes(halves, tell = () => {}) {
     const { dcc_framer_new: begin, dcc_push_many: push, memory } = this.calls;
     const { placeOf } = this;
@@ -101,7 +110,7 @@ class Dcc {
     const room = new Uint16Array(memory.buffer, this.halves, HALVES_EACH);
     const counted = new Uint32Array(memory.buffer, this.taken, 1);
     const view = new DataView(memory.buffer, this.outcome, OUTCOME_BYTES);
-    const list = [];
+    const [ats, times, refusals, numbers, frames, places] = [[], [], [], [], [], new Map()];
     let time = 0;
     begin(framer);
     for (let from = 0; from < halves.count; from += HALVES_EACH) {
@@ -109,29 +118,49 @@ class Dcc {
       room.set(part);
       for (let at = 0; at < part.length; ) {
         const isEnd = push(framer, placeOf(this.halves + 2 * at), BigInt(part.length - at), outcome, taken);
-        for (const end = at + counted[0]; at < end; at += 1) time += part[at];
+        for (const end = at + counted[0]; at < end; at += 1) time += room[at];
         if (!isEnd) continue;
-        const bytes = this.frameAt(this.outcome + 6, view.getUint8(5));
-        list.push({ at: from + at, time, refusal: view.getUint8(4), bytes });
+        const [place, n] = [this.outcome + 6, view.getUint8(5)];
+        const frame = this.numberAt(place, n);
+        let number = places.get(frame);
+        if (number === undefined) {
+          number = frames.push([...this.bytesAt(place, n)]) - 1;
+          places.set(frame, number);
+        }
+        ats.push(from + at);
+        times.push(time);
+        refusals.push(view.getUint8(4));
+        numbers.push(number);
       }
       if (from % TOLD_EACH < HALVES_EACH) tell((from + part.length) / halves.count);
     }
-    return list;
+    const [at, frame] = [ats, numbers].map((it) => new Uint32Array(it));
+    return { at, time: new Float64Array(times), refusal: new Uint8Array(refusals), frame, frames };
   }
 
   /** Returns the lost packets in half-bits: the number of the last half-bit, from 1, its end in microseconds, the
    * bytes, and the causes. */
   lost(halves, tell = () => {}) {
-    const { dcc_lost_push: push } = this.calls;
-    const [finder, packet] = [this.finder, this.lostPacket].map((it) => this.placeOf(it));
+    const { dcc_lost_push_many: push, memory } = this.calls;
+    const { placeOf } = this;
+    const [finder, packet, taken] = [this.finder, this.lostPacket, this.taken].map((it) => placeOf(it));
+    const room = new Uint16Array(memory.buffer, this.halves, HALVES_EACH);
+    const counted = new Uint32Array(memory.buffer, this.taken, 1);
     this.bytesAt(this.finder, LOST_BYTES).fill(0);
-    const { us, count: end } = halves;
     const list = [];
-    let time = 0;
-    for (let at = 0; at < end; at += 1) {
-      time += us[at];
-      if (push(finder, us[at], packet)) list.push({ at: at + 1, time, refusal: 0, ...this.lostAt(at + 1) });
-      if (at % TOLD_EACH === 0) tell(at / end);
+    // the end of half-bit `timed` in microseconds
+    let [time, timed] = [0, 0];
+    for (let from = 0; from < halves.count; from += HALVES_EACH) {
+      const part = halves.us.subarray(from, Math.min(from + HALVES_EACH, halves.count));
+      room.set(part);
+      for (let at = 0; at < part.length; ) {
+        const isLost = push(finder, placeOf(this.halves + 2 * at), BigInt(part.length - at), packet, taken);
+        at += counted[0];
+        if (!isLost) continue;
+        for (; timed < from + at; timed += 1) time += halves.us[timed];
+        list.push({ at: from + at, time, refusal: 0, ...this.lostAt(from + at) });
+      }
+      if (from % TOLD_EACH < HALVES_EACH) tell((from + part.length) / halves.count);
     }
     return list;
   }

@@ -267,7 +267,8 @@ def verdicts(browser, cases):
     return browser.js(
         """(%s).map(([who, first, second]) => {
         const bytes = (text) => new TextEncoder().encode(text);
-        const sides = [first, second].map((it) => page.dcc.outcomes(readBytes(bytes(it)).halves));
+        const outcomes = (it) => unpackOutcomes(page.dcc, page.dcc.outcomes(readBytes(bytes(it)).halves));
+        const sides = [first, second].map(outcomes);
         return differenceOf(new Packets(page.dcc, decoderOf(page.dcc, who)), sides).verdict;
     })"""
         % json.dumps(cases)
@@ -869,6 +870,8 @@ def largest():
             out.write("58 " * (LARGEST - count))
         browser = Browser()
         try:
+            # a browser begins a second renderer after its first page, for a next page
+            time.sleep(1)
             _, before = peak_of(browser)
             begin = time.monotonic()
             browser.open(file)

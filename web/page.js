@@ -43,8 +43,8 @@ class Page {
   }
 
   /** Shows a capture that a worker has read. */
-  heard({ count: n, buffer, outcomes: packed, ...read }) {
-    const halves = new Halves(n, buffer);
+  heard({ count: n, long, buffer, outcomes: packed, ...read }) {
+    const halves = new Halves({ count: n, long, buffer });
     const outcomes = unpackOutcomes(this.dcc, packed);
     const lost = read.lost.map((it) => ({ ...it, bytes: this.dcc.frameOf(it.bytes) }));
     const items = mergedItems(outcomes, lost);
@@ -195,7 +195,7 @@ const begin = async () => {
     return end(`${lack} Without a browser, “dcc show --words” writes the same list.`);
   }
   try {
-    const module = decode($(moduleOfBrowser()).textContent.trim());
+    const module = await WebAssembly.compile(decode($(moduleOfBrowser()).textContent.trim()));
     page = new Page(await Dcc.load(module), new Work(module));
   } catch (error) {
     return end(`The module of this page cannot be started here: ${error.message}`);

@@ -6,7 +6,7 @@
 const SCRIPT = globalThis.document?.currentScript.textContent;
 
 /** The number of bytes of a file that are read at once, since a browser stores them twice. */
-const PIECE = 4000000;
+const PIECE = 16000000;
 
 /** The largest text that the field of a capture shows. */
 const LARGEST_SHOWN = 400000;
@@ -22,7 +22,8 @@ const bytesOf = async (input, tell = () => {}) => {
   return bytes;
 };
 
-/** Returns outcomes as a few arrays, which go from a worker to the page and back. Equal frames have one number. */
+/** Returns outcomes as a few arrays, which go from a worker to the page and back: the number of the last half-bit, from
+ * 1, its end in microseconds, the refusal or 0, and the number of the frame. Equal frames have one number. */
 const packOutcomes = (outcomes) => {
   const n = outcomes.length;
   const [at, time] = [new Uint32Array(n), new Float64Array(n)];
@@ -37,8 +38,11 @@ const packOutcomes = (outcomes) => {
 
 const unpackOutcomes = (dcc, { at, time, refusal, frame, frames }) => {
   const own = frames.map((it) => dcc.frameOf(it));
-  const outcome = (n, i) => ({ at: n, time: time[i], refusal: refusal[i], bytes: own[frame[i]], heard: i + 1 });
-  return Array.from(at, outcome);
+  const outcomes = [];
+  for (let i = 0; i < at.length; i += 1) {
+    outcomes.push({ at: at[i], time: time[i], refusal: refusal[i], bytes: own[frame[i]], heard: i + 1 });
+  }
+  return outcomes;
 };
 
 /** The jobs of a worker, by name. A job calls `tell` with its name and the part that is done, from 0 to 1. */
@@ -52,9 +56,9 @@ const JOBS = {
     const { halves, ...read } = session ? await readSession(session, key, tellRead) : readBytes(bytes, key, tellRead);
     // the bytes are freed before the outcomes need memory, if the browser can do this
     bytes.buffer.transfer?.(0);
-    const outcomes = packOutcomes(dcc.outcomes(halves, (part) => tell('searched for packets', part)));
+    const outcomes = dcc.outcomes(halves, (part) => tell('searched for packets', part));
     const lost = dcc.lost(halves, (part) => tell('searched for lost packets', part));
-    return { ...read, text, count: halves.count, buffer: halves.us.buffer, outcomes, lost };
+    return { ...read, text, count: halves.count, long: halves.long, buffer: halves.us.buffer, outcomes, lost };
   },
 
   /** Returns the first difference of two captures for a decoder. */

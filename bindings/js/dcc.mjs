@@ -18,7 +18,7 @@ const { instance } = await WebAssembly.instantiate(await readModule(), {});
 const calls = instance.exports;
 
 /** The memory of the module for one call after the other. Each object is kept outside, and copied in for a call. */
-const OBJECT_BYTES = 1800;
+const OBJECT_BYTES = 1801;
 const MANY = 32768;
 const sizes = {
   object: OBJECT_BYTES, frame: 7, lost: 28, out: 32, line: 41, cvs: 1024, timing: 8, taken: 8, halves: 2 * MANY,
@@ -190,6 +190,9 @@ export const turnoutPair = (number, firstBoard = 1) => {
   return { board: (pairs >> 2) + first, pair: pairs & 3 };
 };
 
+/** Returns half-bits of these microseconds as a Uint16Array. It returns a Uint16Array itself, without a copy. */
+const halvesOf = (items) => (items instanceof Uint16Array ? items : Uint16Array.from(items, checkedHalf));
+
 /** A packet or a refusal: the number of its last half-bit, counted from 1, the name of the refusal or null, and its
  * bytes. */
 export class Seen {
@@ -228,7 +231,7 @@ export class Framer {
   /** Takes half-bits of these microseconds, in order: an array or a Uint16Array. Returns a list of their packets and
    * refusals. If an item is no half-bit, the framer takes no item. */
   pushMany(items) {
-    const all = items instanceof Uint16Array ? items : Uint16Array.from(items, checkedHalf);
+    const all = halvesOf(items);
     const [room, found] = [new Uint16Array(calls.memory.buffer, places.halves, MANY), []];
     memory.set(this.#framer, places.object);
     for (let from = 0; from < all.length; from += MANY) {
@@ -296,16 +299,38 @@ export class LostFinder {
       if (at) found.push(lostAt(this.#taken));
       left -= at || left;
     }
+    this.#keep();
+    return found;
+  }
+
+  #keep() {
     this.#finder.set(memory.subarray(places.object, places.object + this.#finder.length));
+  }
+
+  /** Takes half-bits of these microseconds, in order: an array or a Uint16Array. Returns a list of the packets that are
+   * lost in them. If an item is no half-bit, the finder takes no item. */
+  pushMany(items) {
+    const halves = halvesOf(items);
+    const [room, found] = [new Uint16Array(calls.memory.buffer, places.halves, MANY), []];
+    memory.set(this.#finder, places.object);
+    for (let from = 0; from < halves.length; from += MANY) {
+      const part = halves.subarray(from, from + MANY);
+      room.set(part);
+      for (let at = 0; at < part.length; ) {
+        const [place, left] = [places.halves + 2 * at, BigInt(part.length - at)];
+        const isLost = calls.dcc_lost_push_many(places.object, place, left, places.lost, places.taken);
+        at += view().getUint32(places.taken, true);
+        if (isLost) found.push(lostAt(this.#taken + from + at));
+      }
+    }
+    this.#taken += halves.length;
+    this.#keep();
     return found;
   }
 }
 
 /** Returns the packets in half-bits that a decoder does not hear, in order. */
-export const lost = (items) => {
-  const finder = new LostFinder();
-  return [...items].flatMap((us) => finder.push(us));
-};
+export const lost = (items) => new LostFinder().pushMany(items);
 
 /** Returns the half-bits of a capture, which is a string or its bytes (docs/FORMATS.md).
  *
@@ -542,7 +567,7 @@ export class Reader {
 /** A command station with at most 64 waiting commands, at most 128 entries that it sends again and again, and 1 to 8
  * copies of each command. */
 export class Station {
-  #station = new Uint8Array(1800);
+  #station = new Uint8Array(1801);
 
   constructor({ queue = 64, slots = 128, repeats = 2 } = {}) {
     for (const it of [queue, slots, repeats]) checkedNumber('a size', it, 0, 255);

@@ -108,7 +108,7 @@ class _Board(ctypes.Structure):
 
 
 class _Station(ctypes.Structure):
-    _fields_ = [("kept", _u8 * 1800)]
+    _fields_ = [("kept", _u8 * 1801)]
 
 
 class _Packet(ctypes.Structure):
@@ -150,10 +150,18 @@ class _Writer(ctypes.Structure):
     _fields_ = [("cv", _u16), ("value", _u8), ("is_verifying", ctypes.c_bool)]
 
 
-_SIZES = (_Frame, 7), (_Framer, 24), (_Outcome, 12), (_Sender, 16), (_Loco, 1072), (_Board, 12), (_Station, 1800)
+class _ServicePacket(ctypes.Structure):
+    _fields_ = [("cv", _u16), ("kind", _u8), ("value", _u8), ("place", _u8), ("one", ctypes.c_bool)]
+
+
+class _Functions(ctypes.Structure):
+    _fields_ = [("on", _u64 * 2)]
+
+
+_SIZES = (_Frame, 7), (_Framer, 24), (_Outcome, 12), (_Sender, 16), (_Loco, 1072), (_Board, 12), (_Station, 1801)
 _SIZES += (_ServicePart, 8), (_TrackLoco, 1088), (_TrackBoard, 1046), (_Answer, 4)
 _SIZES += (_Lost, 808), (_LostPacket, 28), (_Meter, 1104), (_Statistics, 280), (_Packet, 18)
-_SIZES += (_Service, 1032), (_Reader, 4), (_Writer, 4)
+_SIZES += (_Service, 1032), (_Reader, 4), (_Writer, 4), (_ServicePacket, 6), (_Functions, 16)
 for _object, _size in _SIZES:
     assert ctypes.sizeof(_object) == _size, f"{_object.__name__} is not as dcc.h has it"
 
@@ -171,12 +179,16 @@ _push_many = _call("dcc_push_many", _u8, _at(_Framer), ctypes.c_void_p, _u64, _a
 _read = _call("dcc_read", _u8, ctypes.c_char_p, _u64, _at(_Packet))
 _lost_new = _call("dcc_lost_new", None, _at(_Lost))
 _lost_push_run = _call("dcc_lost_push_run", _u32, _at(_Lost), _u16, _u32, _at(_LostPacket))
+_lost_push_many = _call(
+    "dcc_lost_push_many", _u8, _at(_Lost), ctypes.c_void_p, _u64, _at(_LostPacket), _at(_u64)
+)
 _meter_new = _call("dcc_meter_new", None, _at(_Meter))
 _meter_push_run = _call("dcc_meter_push_run", _u8, _at(_Meter), _u16, _u32)
 _meter_push_many = _call("dcc_meter_push_many", _u8, _at(_Meter), ctypes.c_void_p, _u64)
 _meter_read = _call("dcc_meter_read", None, _at(_Meter), _at(_Statistics))
 _line = _call("dcc_line", _u8, ctypes.c_char_p, _u64, ctypes.c_char_p)
 _frame_of_line = _call("dcc_frame_of_line", _u8, ctypes.c_char_p, _u64, _at(_Frame))
+_frame_of_packet = _call("dcc_frame_of_packet", _u8, _at(_Packet), _at(_Frame))
 _sender_start = _call("dcc_sender_start", _u8, _at(_Sender), ctypes.c_char_p, _u64, _at(_Timing))
 _sender_half = _call("dcc_sender_half", _u16, _at(_Sender))
 _loco_new = _call("dcc_loco_new", None, _at(_Loco), ctypes.c_char_p)
@@ -201,11 +213,17 @@ _reader_answer = _call("dcc_reader_answer", _u8, _at(_Reader), ctypes.c_bool, _a
 _writer_new = _call("dcc_writer_new", _u8, _at(_Writer), _u16, _u8)
 _writer_question = _call("dcc_writer_question", _u8, _at(_Writer), _at(_Frame))
 _writer_answer = _call("dcc_writer_answer", _u8, _at(_Writer), ctypes.c_bool)
+_service_frame = _call("dcc_service_frame", _u8, _at(_ServicePacket), _at(_Frame))
+_service_read = _call("dcc_service_read", _u8, ctypes.c_char_p, _u64, _at(_ServicePacket))
 _station_new = _call("dcc_station_new", _u8, _at(_Station), _u8, _u8, _u8)
 _station_command = _call("dcc_station_command", _u8, _at(_Station), ctypes.c_char_p, _u64)
 _station_next = _call("dcc_station_next", None, _at(_Station), _at(_Frame))
+_station_stop = _call("dcc_station_stop", _u8, _at(_Station))
+_station_forget = _call("dcc_station_forget", _u8, _at(_Station), _u8, _u16)
 _station_waiting = _call("dcc_station_waiting", _u8, _at(_Station))
 _station_entries = _call("dcc_station_entries", _u8, _at(_Station))
+_functions_turn = _call("dcc_functions_turn", _u8, _at(_Functions), _u8, _u16, _u8, ctypes.c_bool, _at(_Frame))
+_functions_is_on = _call("dcc_functions_is_on", _u8, _at(_Functions), _u8)
 
 
 class Refused(ValueError):
@@ -256,6 +274,27 @@ def _encoded(name, text):
     if not isinstance(text, str):
         raise TypeError(f"{name} is a text, not {type(text).__name__}")
     return text.encode("utf-8", "surrogatepass")
+
+
+def _bool(name, value):
+    """Returns the truth value. Errors: TypeError if it is not True or False."""
+    if not isinstance(value, bool):
+        raise TypeError(f"{name} is True or False, not {type(value).__name__}")
+    return value
+
+
+def _address(address):
+    """Returns the kind and the number of an address. Errors: Refused, P10 if the text is no address, P11 if its number
+    is above 65535."""
+    if not isinstance(address, str):
+        raise TypeError(f"an address is a text, not {type(address).__name__}")
+    if address == "all":
+        return 0, 0
+    if not re.fullmatch(r"[sl][0-9]{1,5}", address, re.ASCII):
+        raise Refused("P10")
+    if int(address[1:]) > 65535:
+        raise Refused("P11")
+    return " sl".index(address[0]), int(address[1:])
 
 
 def _run(us, count):
@@ -389,6 +428,25 @@ class Lost:
             left -= taken
         return found
 
+    def push_many(self, halves: Iterable[int]) -> "List[LostPacket]":
+        """Takes half-bits of these microseconds, in order. Returns a list of the packets that are lost in them.
+
+        A half-bit above 65535 counts as 65535. An array with the type code 'H', as `capture` returns, is taken without
+        a copy.
+
+        Errors: TypeError or ValueError if an item is no half-bit. The finder then takes no item."""
+        halves = _array(halves)
+        found, done, count = [], 0, len(halves)
+        place = halves.buffer_info()[0]
+        packet, taken = _LostPacket(), _u64()
+        while done < count:
+            is_lost = _lost_push_many(self._lost, place + 2 * done, count - done, packet, taken)
+            done += taken.value
+            if is_lost:
+                found.append(_lost_at(self._taken + done, packet))
+        self._taken += done
+        return found
+
 
 def _lost_at(at, packet):
     preamble, causes = None, [_off_limits(packet.ones), _off_limits(packet.zeros)]
@@ -405,6 +463,8 @@ def _off_limits(off):
 def lost(halves):
     """Returns the packets that a decoder does not hear in half-bits, which are numbers of microseconds, in order."""
     finder = Lost()
+    if isinstance(halves, array) and halves.typecode == "H":
+        return iter(finder.push_many(halves))
     return (it for us in halves for it in finder.push(us))
 
 
@@ -643,7 +703,8 @@ _KINDS = (
 class Packet:
     """The fields of a packet (docs/FORMATS.md). A field that the kind of the packet does not use is None.
 
-    An address is 'all', 's3' or 'l1000'. The bits of functions have the lowest function in the lowest bit."""
+    An address is 'all', 's3' or 'l1000'. The bits of functions have the lowest function in the lowest bit. The field
+    `other` is the frame of a packet of the kind 'other'."""
 
     kind: str
     address: Optional[str] = None
@@ -660,6 +721,38 @@ class Packet:
     output: Optional[int] = None
     signal: Optional[int] = None
     aspect: Optional[int] = None
+    other: Optional[bytes] = None
+
+    def frame(self) -> bytes:
+        """Returns the bytes of the frame of the packet. `read` returns this packet for the frame.
+
+        >>> Packet("speed28", address="s3", forward=True, bits=4).frame().hex()
+        '036261'
+
+        Errors: Refused with the first error of the packet line with these fields: P1 to P9 or P14 if a field is out of
+        its range, P10 for a kind, an address or a group that does not exist. P12 if the bytes of a packet of the kind
+        'other' are no frame, or the frame of another kind. TypeError if a field that the kind uses has a wrong type,
+        ValueError if its number is below 0 or does not fit into the bytes of the field. Fields that the kind does not
+        use do not matter."""
+        if self.kind not in _KINDS:
+            raise Refused("P10")
+        fields, found = _Packet(kind=_KINDS.index(self.kind)), _Frame()
+        for name in _FIELDS.get(self.kind, "").split():
+            value = getattr(self, name)
+            if name == "address":
+                fields.to, fields.address = _address(value)
+            elif name in ("forward", "on", "one"):
+                setattr(fields, name, _bool(f"the field {name}", value))
+            elif name == "other":
+                bytes_ = _frame_bytes(value)
+                found.len = min(len(bytes_), 255)
+                found.bytes[:] = bytes_[:6].ljust(6, b"\0")
+            else:
+                most = 65535 if name in ("board", "signal", "cv") else 255
+                field = "address" if name in ("board", "signal") else name
+                setattr(fields, field, _number(f"the field {name}", value, 0, most))
+        _check(_frame_of_packet(fields, found), "P")
+        return bytes(found)
 
 
 # the fields of each kind of packet
@@ -667,7 +760,7 @@ _FIELDS = {
     "speed28": "address forward bits", "speed128": "address forward bits", "functions": "address bits group",
     "reset": "address", "state": "address state on", "cv write": "address cv value", "cv verify": "address cv value",
     "cv bitwrite": "address cv place one", "cv bitverify": "address cv place one", "accessory": "board output on",
-    "signal": "signal aspect",
+    "signal": "signal aspect", "other": "other",
 }  # fmt: skip
 
 
@@ -676,7 +769,7 @@ def read(frame: Bytes) -> Packet:
 
     >>> read(bytes.fromhex("036261"))
     Packet(kind='speed28', address='s3', forward=True, bits=4, group=None, state=None, on=None, cv=None, value=None, \
-place=None, one=None, board=None, output=None, signal=None, aspect=None)
+place=None, one=None, board=None, output=None, signal=None, aspect=None, other=None)
 
     Errors: L1 if the frame has not 3 to 6 bytes, L2 if its error byte is wrong."""
     found, frame = _Packet(), _frame_bytes(frame)
@@ -686,6 +779,7 @@ place=None, one=None, board=None, output=None, signal=None, aspect=None)
         "address": f"{' sl'[found.to]}{found.address}" if found.to else "all",
         "board": found.address,
         "signal": found.address,
+        "other": frame,
     }
     names = _FIELDS.get(kind, "").split()
     return Packet(kind, **{it: of[it] if it in of else getattr(found, it) for it in names})
@@ -1001,6 +1095,66 @@ class TrackBoard(_BothTracks, _BoardRegisters):
         return bytes(self._decoder.cvs)
 
 
+_SERVICE_KINDS = {"write": 6, "verify": 7, "bitwrite": 8, "bitverify": 9}
+
+
+@dataclass(frozen=True)
+class ServicePacket:
+    """A packet on the programming track (NMRA S-9.2.3). The kind is 'write', 'verify', 'bitwrite' or 'bitverify'.
+
+    The first two kinds have a value, and the others have the place and the value of a bit."""
+
+    kind: str
+    cv: int
+    value: Optional[int] = None
+    place: Optional[int] = None
+    one: Optional[bool] = None
+
+    def frame(self) -> bytes:
+        """Returns the bytes of the frame of the packet. `read_service` returns this packet for the frame.
+
+        >>> ServicePacket("bitwrite", 29, place=1, one=True).frame().hex()
+        '781cf99d'
+
+        Errors: Refused, P10 for another kind, P6 if the CV is not 1 to 1024, then P7 if the place is above 7. TypeError
+        and ValueError as those of `Packet.frame`."""
+        if self.kind not in _SERVICE_KINDS:
+            raise Refused("P10")
+        fields = _ServicePacket(kind=_SERVICE_KINDS[self.kind], cv=_number("a CV", self.cv, 0, 65535))
+        if fields.kind < 8:
+            fields.value = _number("a value", self.value, 0, 255)
+        else:
+            fields.place, fields.one = _number("a place", self.place, 0, 255), _bool("the field one", self.one)
+        found = _Frame()
+        _check(_service_frame(fields, found), "P")
+        return bytes(found)
+
+
+def read_service(frame: Bytes) -> Optional[ServicePacket]:
+    """Returns the packet that a frame is on the programming track, or None if no service packet has this frame.
+
+    >>> read_service(bytes.fromhex("7c000a76"))
+    ServicePacket(kind='write', cv=1, value=10, place=None, one=None)
+
+    Errors: L1 if the frame has not 3 to 6 bytes, L2 if its error byte is wrong."""
+    found, frame = _ServicePacket(), _frame_bytes(frame)
+    answer = _service_read(frame, len(frame), found)
+    if answer == 10:
+        return None
+    _check(answer, "L")
+    kind = next(it for it, number in _SERVICE_KINDS.items() if number == found.kind)
+    if found.kind < 8:
+        return ServicePacket(kind, found.cv, value=found.value)
+    return ServicePacket(kind, found.cv, place=found.place, one=found.one)
+
+
+def question_frames(question: Bytes) -> List[bytes]:
+    """Returns the eight frames in which a station asks a question of a Reader or a Writer, or sends a service packet:
+    three resets, and five copies of the question. Each has a preamble of 20 ones. The answer is yes if the decoder
+    acknowledges any of the eight frames."""
+    return [bytes(3)] * 3 + [_frame_bytes(question)] * 5
+
+
 def _check_yes(yes):
     if not isinstance(yes, bool):
         raise TypeError(f"an answer is True or False, not {type(yes).__name__}")
@@ -1083,18 +1237,71 @@ class Station:
         answer = _station_command(self._station, frame, len(frame))
         _check(answer, "L" if answer < 3 else "C")
 
+    def stop(self) -> int:
+        """Stops all locomotives. The next frames are copies of the emergency stop of all locomotives, as many as of a
+        command. The directions of the locomotives stay. Removes each waiting command that sets the speed of a
+        locomotive to a step, and returns the number of these commands. All other commands wait. If one of them was
+        partly sent, all its copies are sent again. A stop that is called while another stop waits starts the copies
+        again. No locomotive moves again before the station gets a command that sets a speed to a step."""
+        return _station_stop(self._station)
+
     def next(self) -> bytes:
         """Returns the bytes of the next frame to send."""
         found = _Frame()
         _station_next(self._station, found)
         return bytes(found)
 
+    def forget(self, address: str) -> None:
+        """Removes the entries with an address, 's3' or 'l1000', for example when a locomotive leaves the track. The
+        waiting commands stay, and become entries as before. No entry has the address 'all'.
+
+        Errors: Refused, P1, P2, P10 or P11 if there is no such address."""
+        _check(_station_forget(self._station, *_address(address)), "P")
+
     @property
     def waiting(self) -> int:
-        """Returns the number of waiting commands."""
+        """Returns the number of waiting commands. A stop that waits does not count."""
         return _station_waiting(self._station)
 
     @property
     def entries(self) -> int:
         """Returns the number of entries."""
         return _station_entries(self._station)
+
+
+class Functions:
+    """The functions F0 to F68 of a locomotive, all off at first (RCN-212). A packet sets all functions of a group, so a
+    station that turns one function needs the states of the other functions of the group.
+
+    >>> functions = Functions()
+    >>> [line(functions.turn("s3", function, True)) for function in (5, 7)]
+    ['loco s3 functions 5 1', 'loco s3 functions 5 5']
+    >>> functions.on
+    [5, 7]"""
+
+    def __init__(self) -> None:
+        self._functions = _Functions()
+
+    def turn(self, address: str, function: int, on: bool) -> bytes:
+        """Turns a function on or off. Returns the frame to an address, 'all', 's3' or 'l1000', that sets the group of
+        the function, with the states of all functions of the group.
+
+        A decoder that has these functions has them still after it hears the frame. With 14 speed steps, a decoder takes
+        F0 from the packets of the kind 'speed28', and ignores the F0 of the group.
+
+        Errors: Refused, P1, P2, P10 or P11 if there is no such address, then P13 if the function is above 68. The
+        functions then do not change."""
+        kind, number = _address(address)
+        found = _Frame()
+        function, on = _number("a function", function, 0, 255), _bool("the state of a function", on)
+        _check(_functions_turn(self._functions, kind, number, function, on, found), "P")
+        return bytes(found)
+
+    def is_on(self, function: int) -> bool:
+        """Returns True if the function is on. No function above 68 is on."""
+        return _functions_is_on(self._functions, _number("a function", function, 0, 255)) == 1
+
+    @property
+    def on(self) -> List[int]:
+        """Returns the numbers of the functions that are on."""
+        return list(filter(self.is_on, range(69)))

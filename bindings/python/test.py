@@ -466,6 +466,18 @@ class ByHand(unittest.TestCase):
         self.assertEqual((full.waiting, full.entries), (64, 0))
         self.assertRefused("C4", full.command, SPEED)
 
+    def test_a_station_stops_all(self):
+        station = dcc.Station(4, 4, 2)
+        for line in "loco s3 cv write 29 2", "loco s3 speed28 f 20", "loco s4 speed128 r 1", "loco s5 speed128 r 9":
+            station.command(dcc.frame(line))
+        self.assertEqual(dcc.line(station.next()), "loco s3 cv write 29 2")
+        self.assertEqual((station.stop(), station.waiting, station.entries), (2, 2, 0))
+        sent = [dcc.line(station.next()) for _ in range(8)]
+        self.assertEqual(sent[:5], ["loco all speed28 f 3"] * 2 + ["loco s3 cv write 29 2"] * 3)
+        self.assertEqual(sent[5:], ["loco s4 speed128 r 1"] * 3)
+        self.assertEqual((station.stop(), station.next(), station.stop()), (0, bytes.fromhex("007171"), 0))
+        self.assertEqual([dcc.line(station.next())[:8] for _ in range(3)], ["loco all"] * 2 + ["loco s4 "])
+
     def test_halves_have_their_timing(self):
         words = "\n".join(rows()) + "\n"
         sent = "".join(" ".join(map(str, dcc.halves(dcc.frame(it), preamble=20))) + "\n" for it in rows())
@@ -651,12 +663,151 @@ class ByHand(unittest.TestCase):
                 text = packet.kind
             said = dcc.line(dcc.frame(line))
             self.assertEqual(text, "other" if said.startswith("frame") else said)
+            self.assertEqual(packet.frame(), dcc.frame(line))
         self.assertEqual(len(kinds), 13)
-        self.assertEqual(dcc.read(dcc.frame("frame 7c000a76")), dcc.Packet("other"))
+        other = bytes.fromhex("7c000a76")
+        self.assertEqual(dcc.read(other), dcc.Packet("other", other=other))
         speed = dcc.Packet("speed28", address="s3", forward=True, bits=4)
         self.assertEqual((dcc.read(SPEED), dcc.read(SPEED).cv), (speed, None))
         self.assertRefused("L1", dcc.read, b"\1\1")
         self.assertRefused("L2", dcc.read, b"\1\2\4")
+
+    def test_fields_of_packets_and_their_faults(self):
+        for fields, code in (
+            (("no kind",), "P10"),
+            (("reset", "s0"), "P1"),
+            (("reset", "s128"), "P1"),
+            (("reset", "l10240"), "P2"),
+            (("reset", "x3"), "P10"),
+            (("reset", "s"), "P10"),
+            (("reset", "s70000"), "P11"),
+            (("speed28", "s3", True, 32), "P8"),
+            (("speed128", "s3", True, 128), "P8"),
+            (("functions", "s3", None, 255, 4), "P10"),
+            (("functions", "s3", None, 32, 0), "P9"),
+            (("state", "s3", None, None, None, 128, True), "P14"),
+        ):
+            self.assertRefused(code, dcc.Packet(*fields).frame)
+        for packet, code in (
+            (dcc.Packet("cv write", "s3", cv=1025, value=0), "P6"),
+            (dcc.Packet("cv bitwrite", "s3", cv=0, place=8, one=True), "P6"),
+            (dcc.Packet("cv bitverify", "s3", cv=1, place=8, one=True), "P7"),
+            (dcc.Packet("accessory", board=512, output=8, on=True), "P3"),
+            (dcc.Packet("accessory", board=511, output=8, on=True), "P4"),
+            (dcc.Packet("signal", signal=2048, aspect=0), "P5"),
+            (dcc.Packet("other", other=SPEED), "P12"),
+            (dcc.Packet("other", other=b"\1\2\4"), "P12"),
+            (dcc.Packet("other", other=b""), "P12"),
+            (dcc.Packet("other", other=bytes.fromhex("7c000a76") + bytes(3)), "P12"),
+            (dcc.Packet("other", other=bytes(260)), "P12"),
+        ):
+            self.assertRefused(code, packet.frame)
+        # fields that the kind does not use do not matter
+        self.assertEqual(dcc.Packet("idle", address=7, bits="x", other=8).frame(), dcc.frame("idle"))
+        for packet, error in (
+            (dcc.Packet("reset"), TypeError),
+            (dcc.Packet("speed28", "s3", 1, 4), TypeError),
+            (dcc.Packet("speed28", "s3", True, 4.0), TypeError),
+            (dcc.Packet("speed28", "s3", True, 256), ValueError),
+            (dcc.Packet("signal", signal=65536, aspect=0), ValueError),
+            (dcc.Packet("accessory", board=-1, output=0, on=True), ValueError),
+            (dcc.Packet("other"), TypeError),
+            (dcc.Packet("other", other=[256]), ValueError),
+        ):
+            self.assertRaises(error, packet.frame)
+
+    def test_service_packets_have_their_frames(self):
+        for packet, bytes_ in (
+            (dcc.ServicePacket("write", 1, 10), "7c000a76"),
+            (dcc.ServicePacket("verify", 1024, 165), "77ffa52d"),
+            (dcc.ServicePacket("bitwrite", 1024, place=5, one=True), "7bfffd79"),
+            (dcc.ServicePacket("bitverify", 1024, place=5, one=False), "7bffe561"),
+        ):
+            self.assertEqual(packet.frame().hex(), bytes_)
+            self.assertEqual(dcc.read_service(bytes.fromhex(bytes_)), packet)
+        for packet, code in (
+            (dcc.ServicePacket("verifies", 1, 10), "P10"),
+            (dcc.ServicePacket("write", 0, 10), "P6"),
+            (dcc.ServicePacket("verify", 1025, 10), "P6"),
+            (dcc.ServicePacket("bitwrite", 0, place=8, one=True), "P6"),
+            (dcc.ServicePacket("bitverify", 1, place=8, one=True), "P7"),
+        ):
+            self.assertRefused(code, packet.frame)
+        for frame in SPEED, dcc.frame("idle"), bytes.fromhex("7800d8a0"):
+            self.assertIsNone(dcc.read_service(frame))
+        self.assertRefused("L1", dcc.read_service, b"\1\1")
+        self.assertRefused("L2", dcc.read_service, b"\1\2\4")
+        for packet, error in (
+            (dcc.ServicePacket("write", 1), TypeError),
+            (dcc.ServicePacket("write", 1, 256), ValueError),
+            (dcc.ServicePacket("write", 65536, 1), ValueError),
+            (dcc.ServicePacket("bitwrite", 1, place=1, one=1), TypeError),
+        ):
+            self.assertRaises(error, packet.frame)
+        question = dcc.Writer(1, 10).question()
+        self.assertEqual(dcc.question_frames(question), [bytes(3)] * 3 + [question] * 5)
+        self.assertRaises(TypeError, dcc.question_frames, "7c000a76")
+
+    def test_a_station_forgets_one_address(self):
+        station = dcc.Station(4, 8, 1)
+        s3, l3, later = map(dcc.frame, ("loco s3 speed28 f 4", "loco l3 speed28 f 5", "loco s3 speed28 r 6"))
+        for frame in s3, l3:
+            station.command(frame)
+            self.assertEqual(station.next(), frame)
+        station.command(later)
+        for address, code in ("s0", "P1"), ("s128", "P1"), ("l10240", "P2"), ("3", "P10"), ("s99999", "P11"):
+            self.assertRefused(code, station.forget, address)
+        self.assertRaises(TypeError, station.forget, 3)
+        for address in "all", "s4", "l4":
+            station.forget(address)
+            self.assertEqual((station.waiting, station.entries), (1, 2))
+        station.forget("s3")
+        self.assertEqual((station.waiting, station.entries), (1, 1))
+        self.assertEqual([station.next() for _ in range(3)], [later, l3, later])
+        station.forget("l3")
+        self.assertEqual(station.entries, 1)
+
+    def test_one_function_is_turned(self):
+        loco, functions = dcc.Loco({1: 3, 29: 2}), dcc.Functions()
+        self.assertEqual(functions.on, [])
+        for function, on, line in (
+            (0, True, "0 16"),
+            (4, True, "0 24"),
+            (0, False, "0 8"),
+            (5, True, "5 1"),
+            (12, True, "9 8"),
+            (13, True, "13 1"),
+            (20, True, "13 129"),
+            (13, False, "13 128"),
+            (28, True, "21 128"),
+            (29, True, "29 1"),
+            (44, True, "37 128"),
+            (45, True, "45 1"),
+            (53, True, "53 1"),
+            (61, True, "61 1"),
+            (68, True, "61 129"),
+        ):
+            frame = functions.turn("s3", function, on)
+            self.assertEqual(dcc.line(frame), f"loco s3 functions {line}")
+            loco.apply(frame)
+            self.assertEqual((functions.on, functions.is_on(function)), (loco.functions, on))
+        self.assertFalse(any(functions.is_on(n) for n in range(69, 256)))
+        before = functions.on
+        for arguments, code in (
+            (("s128", 69, True), "P1"),
+            (("l10240", 0, True), "P2"),
+            (("a3", 0, True), "P10"),
+            (("s3", 69, True), "P13"),
+            (("all", 255, True), "P13"),
+        ):
+            self.assertRefused(code, functions.turn, *arguments)
+        self.assertRaises(ValueError, functions.turn, "s3", 256, True)
+        self.assertRaises(ValueError, functions.is_on, -1)
+        self.assertRaises(TypeError, functions.turn, "s3", 1, 1)
+        self.assertRaises(TypeError, functions.turn, 3, 1, True)
+        self.assertEqual(functions.on, before)
+        self.assertEqual(functions.turn("l1000", 6, True), dcc.frame("loco l1000 functions 5 3"))
+        self.assertEqual(functions.turn("all", 6, False), dcc.frame("loco all functions 5 1"))
 
     def test_turnouts_are_those_of_show(self):
         boards, outputs = range(511), range(8)
@@ -956,7 +1107,7 @@ class ByHand(unittest.TestCase):
 
     def test_a_call_keeps_the_lock_of_the_interpreter(self):
         with open(dcc.__file__, encoding="utf-8") as source:
-            names = set(re.findall(r'_call\("(\w+)"', source.read())) - {"dcc_station_waiting"}
+            names = set(re.findall(r'_call\(\s*"(\w+)"', source.read())) - {"dcc_station_waiting"}
         with tempfile.TemporaryDirectory() as room:
             with open(f"{room}/stub.c", "w", encoding="ascii") as stub:
                 stub.write(
@@ -1073,8 +1224,24 @@ class RandomPackets(unittest.TestCase):
         self.assertTrue(listing == program("lost", "--words", text="\n".join(map(str, halves)) + "\n"))
         self.assertRegex(listing, " lost loco s3 speed28 f 4: preamble 16\n$")
 
+    def test_in_arrays_the_same_packets_are_lost(self):
+        halves = array.array("H", self.faulty())
+        finder, found = dcc.Lost(), []
+        for from_, to in ((0, 0), (0, 999), (999, 20_000), (20_000, len(halves))):
+            found += finder.push_many(halves[from_:to])
+        # (assertEqual takes minutes to print how two long lists differ)
+        self.assertTrue(found == list(dcc.lost(list(halves))), "a list has other lost packets")
+        self.assertTrue(found == list(dcc.lost(halves)), "an array has other lost packets")
+        self.assertGreater(len(found), 500)
+        finder = dcc.Lost()
+        for bad, kind in (([58, -1], ValueError), ([58, "58"], TypeError)):
+            self.assertRaises(kind, finder.push_many, bad)
+        short = iter([58] * 16 + dcc.halves(SPEED)[28:])
+        self.assertEqual([it.at for it in finder.push_many(short)], [72])
+
     def test_a_frame_has_its_line(self):
         self.assertTrue(all(dcc.frame(dcc.line(it)) == it for it in self.frames))
+        self.assertTrue(all(dcc.read(it).frame() == it for it in self.frames))
 
     def test_decoders_hold_what_run_writes(self):
         fleet = decoders()

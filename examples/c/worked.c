@@ -143,8 +143,10 @@ static bool is_untouched(const dcc_lost_packet *lost) {
         && is_off(&lost->ones, 7, 7, 7) && is_off(&lost->zeros, 7, 7, 7);
 }
 
+/* One finder for all tests, since static objects fill the memory of an ATmega2560. Zeros are a new finder. */
+static dcc_lost finder;
+
 static void a_packet_is_lost_for_each_cause(void) {
-    static dcc_lost finder;
     dcc_lost_packet lost = untouched;
     HOLDS(dcc_lost_push_run(&finder, 58, 16, &lost) == 0 && is_untouched(&lost));
     HOLDS(is_lost_at_its_end(&finder, 58, 100, &lost) && is_short(&lost.preamble, 16, false, 0));
@@ -167,8 +169,8 @@ static void a_packet_is_lost_for_each_cause(void) {
 }
 
 static void a_heard_packet_is_not_lost(void) {
-    static dcc_lost finder;
     dcc_lost_packet lost = untouched;
+    dcc_lost_new(&finder);
     HOLDS(dcc_lost_push_run(&finder, 58, 20, &lost) == 0 && !is_lost_at_its_end(&finder, 58, 100, &lost));
     HOLDS(is_untouched(&lost));
     /* seven half-bits of ones are no preamble */
@@ -179,10 +181,10 @@ static void a_heard_packet_is_not_lost(void) {
 
 /* A run ends in the middle of a run of equal half-bits, and long runs take no longer. */
 static void a_run_is_taken_up_to_a_lost_packet(void) {
-    static dcc_lost finder;
     static const uint16_t runs[9][2] =
         {{100, 14}, {58, 4}, {100, 4}, {58, 4}, {100, 6}, {58, 2}, {100, 6}, {58, 4}, {100, 8}};
     dcc_lost_packet lost = untouched;
+    dcc_lost_new(&finder);
     HOLDS(dcc_lost_push_run(&finder, 100, 4294967295, &lost) == 0 && dcc_lost_push_run(&finder, 58, 0, &lost) == 0);
     HOLDS(dcc_lost_push_run(&finder, 58, 16, &lost) == 0);
     for (int i = 0; i < 9; i++) HOLDS(dcc_lost_push_run(&finder, runs[i][0], runs[i][1], &lost) == 0);
@@ -191,6 +193,23 @@ static void a_run_is_taken_up_to_a_lost_packet(void) {
     HOLDS(is_short(&lost.preamble, 16, false, 0));
     /* the rest of the run is a preamble that is long enough */
     HOLDS(dcc_lost_push_run(&finder, 58, 36, &lost) == 0 && !is_lost_at_its_end(&finder, 58, 100, &lost));
+}
+
+/* An array is taken up to each lost packet, and the rest of it by the next call. */
+static void an_array_is_taken_up_to_a_lost_packet(void) {
+    uint16_t halves[2 * DCC_HALVES];
+    dcc_lost_packet lost = untouched;
+    uint64_t taken = 9;
+    uint32_t count = dcc_halves(speed, 3, 14, halves);
+    dcc_lost_new(&finder);
+    HOLDS(count == 84 && dcc_halves(speed, 3, 14, halves + 84) == 84);
+    /* from half-bit 12 on there are 16 half-bits of ones; the second packet has 28 of them */
+    HOLDS(dcc_lost_push_many(&finder, halves + 12, 0, &lost, &taken) == 0 && taken == 0);
+    HOLDS(dcc_lost_push_many(&finder, halves + 12, 71, &lost, &taken) == 0 && taken == 71 && is_untouched(&lost));
+    HOLDS(dcc_lost_push_many(&finder, halves + 83, 85, &lost, &taken) == 1 && taken == 1);
+    HOLDS(is_frame(&lost.frame, speed, 3) && is_short(&lost.preamble, 16, false, 0));
+    lost = untouched;
+    HOLDS(dcc_lost_push_many(&finder, halves + 84, 84, &lost, &taken) == 0 && taken == 84 && is_untouched(&lost));
 }
 
 static bool is_same(const dcc_packet *a, const dcc_packet *b) {
@@ -993,8 +1012,9 @@ static uint8_t commanded(dcc_station *station, const char *line) {
     return dcc_station_command(station, frame.bytes, frame.len);
 }
 
+static dcc_station station, before;
+
 static void a_station_sends_and_refreshes(void) {
-    static dcc_station station, before;
     dcc_station *s = &station;
     /* one of zeros has no room, and sends idle packets */
     HOLDS(commanded(s, "loco s3 speed28 f 4") == 4 && sends(s, "idle") && dcc_station_waiting(s) == 0);
@@ -1021,6 +1041,233 @@ static void a_station_sends_and_refreshes(void) {
     HOLDS(dcc_station_entries(s) == 2);
 }
 
+static dcc_station one_station;
+
+static void a_station_stops_all(void) {
+    dcc_station *s = &one_station;
+    static const char *const stop = "loco all speed28 f 3";
+    HOLDS(dcc_station_new(s, 5, 4, 2) == 0);
+    HOLDS(commanded(s, "loco s3 speed28 f 20") == 0 && commanded(s, "loco s4 functions 0 16") == 0);
+    for (int i = 0; i < 4; i++) HOLDS(sends(s, i < 2 ? "loco s3 speed28 f 20" : "loco s4 functions 0 16"));
+    HOLDS(dcc_station_waiting(s) == 0 && dcc_station_entries(s) == 2);
+    /* commands that set a step are withdrawn; the write is partly sent, and is sent again after the stop */
+    HOLDS(commanded(s, "loco s3 cv write 29 2") == 0 && commanded(s, "loco s3 speed128 r 2") == 0);
+    HOLDS(commanded(s, "loco s5 speed28 f 4") == 0 && commanded(s, "loco s5 speed28 r 3") == 0);
+    HOLDS(commanded(s, "loco s6 speed128 f 1") == 0 && commanded(s, "loco s6 reset") == 4);
+    HOLDS(sends(s, "loco s3 cv write 29 2") && dcc_station_waiting(s) == 5);
+    HOLDS(dcc_station_stop(s) == 2 && dcc_station_waiting(s) == 3 && dcc_station_entries(s) == 1);
+    HOLDS(sends(s, stop) && sends(s, stop) && dcc_station_waiting(s) == 3 && dcc_station_entries(s) == 1);
+    for (int i = 0; i < 3; i++) HOLDS(sends(s, "loco s3 cv write 29 2"));
+    for (int i = 0; i < 4; i++) HOLDS(sends(s, i < 2 ? "loco s5 speed28 r 3" : "loco s6 speed128 f 1"));
+    HOLDS(dcc_station_waiting(s) == 0 && dcc_station_entries(s) == 3);
+    for (int i = 0; i < 2; i++) {
+        HOLDS(sends(s, "loco s4 functions 0 16") && sends(s, "loco s5 speed28 r 3"));
+        HOLDS(sends(s, "loco s6 speed128 f 1"));
+    }
+    /* a stop is accepted with a full queue, and a second one starts the copies again */
+    for (int i = 0; i < 5; i++) HOLDS(commanded(s, "loco s7 reset") == 0);
+    HOLDS(commanded(s, "loco s7 reset") == 4 && dcc_station_stop(s) == 0 && dcc_station_waiting(s) == 5);
+    HOLDS(sends(s, stop) && dcc_station_stop(s) == 0 && sends(s, stop) && sends(s, stop));
+    HOLDS(sends(s, "loco s7 reset") && dcc_station_waiting(s) == 5 && sends(s, "loco s7 reset"));
+    HOLDS(dcc_station_waiting(s) == 4 && dcc_station_new(s, 5, 4, 2) == 0 && sends(s, "idle"));
+    /* a new station does not stop */
+    HOLDS(dcc_station_stop(s) == 0 && dcc_station_new(s, 5, 4, 2) == 0 && sends(s, "idle"));
+}
+
+/* Reads the packet of a line, and returns true if the fields give the frame of the line. */
+static bool is_back(const char *line, dcc_packet *packet) {
+    dcc_frame expected = frame_of(line), frame = {0};
+    HOLDS(dcc_read(expected.bytes, expected.len, packet) == 0);
+    if (packet->kind == DCC_OTHER) frame = expected;
+    return dcc_frame_of_packet(packet, &frame) == 0 && !memcmp(&frame, &expected, sizeof frame);
+}
+
+static void fields_of_a_packet_have_its_frame(void) {
+    static const char *lines[] = {
+        "idle", "loco all reset", "loco s127 reset", "loco l0 reset", "loco s3 speed28 f 31",
+        "loco l10239 speed128 r 127", "loco s3 functions 0 31", "loco s3 functions 5 15", "loco s3 functions 9 8",
+        "loco s3 functions 13 255", "loco s3 functions 21 1", "loco s3 functions 29 2", "loco s3 functions 37 4",
+        "loco s3 functions 45 8", "loco s3 functions 53 16", "loco s3 functions 61 128", "loco s3 state 127 on",
+        "loco all state 0 off", "loco s3 cv write 1024 255", "loco l1000 cv verify 1 7", "loco s3 cv bitwrite 29 7 1",
+        "loco s3 cv bitverify 1 0 0", "accessory 511 7 on", "accessory 0 0 off", "signal 2047 255", "signal 0 0",
+        "frame 7c000a76",
+    };
+    for (size_t i = 0; i < sizeof lines / sizeof *lines; i++) {
+        dcc_packet packet, again;
+        dcc_frame frame;
+        HOLDS(is_back(lines[i], &packet));
+        if (packet.kind == DCC_OTHER) continue;
+        /* fields that the kind does not use do not matter */
+        memset(&again, 1, sizeof again);
+        again.kind = packet.kind, again.to = packet.to;
+        if (packet.to || packet.kind >= DCC_ACCESSORY) again.address = packet.address;
+        if (packet.kind == DCC_SPEED28 || packet.kind == DCC_SPEED128) again.forward = packet.forward;
+        if (packet.kind >= DCC_SPEED28 && packet.kind <= DCC_FUNCTIONS) again.bits = packet.bits;
+        if (packet.kind == DCC_FUNCTIONS) again.group = packet.group;
+        if (packet.kind == DCC_STATE) again.state = packet.state;
+        if (packet.kind == DCC_STATE || packet.kind == DCC_ACCESSORY) again.on = packet.on;
+        if (packet.kind >= DCC_CV_WRITE && packet.kind <= DCC_CV_BIT_VERIFY) again.cv = packet.cv;
+        if (packet.kind == DCC_CV_WRITE || packet.kind == DCC_CV_VERIFY) again.value = packet.value;
+        if (packet.kind == DCC_CV_BIT_WRITE || packet.kind == DCC_CV_BIT_VERIFY) again.place = packet.place;
+        if (packet.kind == DCC_CV_BIT_WRITE || packet.kind == DCC_CV_BIT_VERIFY) again.one = packet.one;
+        if (packet.kind == DCC_ACCESSORY) again.output = packet.output;
+        if (packet.kind == DCC_SIGNAL) again.aspect = packet.aspect;
+        dcc_frame expected = frame_of(lines[i]);
+        memset(&frame, 7, sizeof frame);
+        HOLDS(dcc_frame_of_packet(&again, &frame) == 0 && !memcmp(&frame, &expected, sizeof frame));
+    }
+    /* the bytes of a worked packet, and zeros after them */
+    static const dcc_frame worked = {3, {0x03, 0x62, 0x61, 0, 0, 0}};
+    dcc_packet packet = {.kind = DCC_SPEED28, .to = DCC_SHORT, .address = 3, .forward = true, .bits = 4};
+    dcc_frame frame;
+    memset(&frame, 7, sizeof frame);
+    HOLDS(dcc_frame_of_packet(&packet, &frame) == 0 && !memcmp(&frame, &worked, sizeof frame));
+    packet = (dcc_packet){.kind = DCC_OTHER};
+    frame = (dcc_frame){4, {0x7C, 0x00, 0x0A, 0x76, 8, 9}};
+    HOLDS(dcc_frame_of_packet(&packet, &frame) == 0 && frame.len == 4);
+    HOLDS(!memcmp(frame.bytes, (const uint8_t[]){0x7C, 0x00, 0x0A, 0x76, 0, 0}, 6));
+}
+
+static void fields_of_a_packet_and_their_faults(void) {
+    static const struct {
+        dcc_packet packet;
+        uint8_t fault;
+    } rows[] = {
+        {{.kind = 13}, DCC_P10_WORD},
+        {{.kind = 255, .to = 3, .address = 65535}, DCC_P10_WORD},
+        {{.kind = DCC_RESET, .to = 3}, DCC_P10_WORD},
+        {{.kind = DCC_RESET, .to = DCC_SHORT}, DCC_P1_SHORT_ADDRESS},
+        {{.kind = DCC_RESET, .to = DCC_SHORT, .address = 128}, DCC_P1_SHORT_ADDRESS},
+        {{.kind = DCC_RESET, .to = DCC_SHORT, .address = 259}, DCC_P1_SHORT_ADDRESS},
+        {{.kind = DCC_RESET, .to = DCC_LONG, .address = 10240}, DCC_P2_LONG_ADDRESS},
+        /* an error of the address comes first */
+        {{.kind = DCC_SPEED28, .to = DCC_SHORT, .bits = 32}, DCC_P1_SHORT_ADDRESS},
+        {{.kind = DCC_FUNCTIONS, .to = 255, .group = 1, .bits = 255}, DCC_P10_WORD},
+        {{.kind = DCC_SPEED28, .to = DCC_SHORT, .address = 3, .bits = 32}, DCC_P8_SPEED_BITS},
+        {{.kind = DCC_SPEED128, .bits = 128}, DCC_P8_SPEED_BITS},
+        {{.kind = DCC_FUNCTIONS, .group = 4, .bits = 255}, DCC_P10_WORD},
+        {{.kind = DCC_FUNCTIONS, .group = 0, .bits = 32}, DCC_P9_FUNCTION_BITS},
+        {{.kind = DCC_FUNCTIONS, .group = 5, .bits = 16}, DCC_P9_FUNCTION_BITS},
+        {{.kind = DCC_FUNCTIONS, .group = 9, .bits = 16}, DCC_P9_FUNCTION_BITS},
+        {{.kind = DCC_STATE, .state = 128}, DCC_P14_BINARY_STATE},
+        {{.kind = DCC_CV_WRITE}, DCC_P6_CV},
+        {{.kind = DCC_CV_VERIFY, .cv = 1025}, DCC_P6_CV},
+        {{.kind = DCC_CV_BIT_WRITE, .place = 8}, DCC_P6_CV},
+        {{.kind = DCC_CV_BIT_VERIFY, .cv = 1, .place = 8}, DCC_P7_BIT_PLACE},
+        {{.kind = DCC_ACCESSORY, .address = 512, .output = 8}, DCC_P3_BOARD},
+        {{.kind = DCC_ACCESSORY, .address = 511, .output = 8}, DCC_P4_OUTPUT},
+        {{.kind = DCC_SIGNAL, .address = 2048}, DCC_P5_SIGNAL},
+    };
+    static const dcc_frame others[] = {
+        {0, {0}}, {2, {0x7C, 0x7C}}, {4, {0x7C, 0x00, 0x0A, 0x77}}, {7, {0x7C, 0x00, 0x0A, 0x76}}, {255, {0}},
+        {3, {0x03, 0x62, 0x61}}, {3, {0xFF, 0x00, 0xFF}}, {3, {0, 0, 0}},
+    };
+    for (size_t i = 0; i < sizeof rows / sizeof *rows; i++) {
+        dcc_frame frame = {.len = 99};
+        HOLDS(dcc_frame_of_packet(&rows[i].packet, &frame) == rows[i].fault && frame.len == 99);
+    }
+    for (size_t i = 0; i < sizeof others / sizeof *others; i++) {
+        dcc_frame frame = others[i];
+        HOLDS(dcc_frame_of_packet(&(dcc_packet){.kind = DCC_OTHER}, &frame) == DCC_P12_FRAME);
+        HOLDS(!memcmp(&frame, &others[i], sizeof frame));
+    }
+}
+
+static void a_station_forgets_one_address(void) {
+    dcc_station *s = &one_station;
+    HOLDS(dcc_station_new(s, 4, 8, 1) == 0);
+    HOLDS(commanded(s, "loco s3 speed28 f 4") == 0 && sends(s, "loco s3 speed28 f 4"));
+    HOLDS(commanded(s, "loco l3 speed28 f 5") == 0 && sends(s, "loco l3 speed28 f 5"));
+    HOLDS(commanded(s, "loco s3 functions 0 16") == 0 && sends(s, "loco s3 functions 0 16"));
+    HOLDS(commanded(s, "loco s3 speed28 r 6") == 0 && dcc_station_entries(s) == 3);
+    before = *s;
+    HOLDS(dcc_station_forget(s, 3, 3) == DCC_P10_WORD && dcc_station_forget(s, 255, 0) == DCC_P10_WORD);
+    HOLDS(dcc_station_forget(s, DCC_SHORT, 0) == DCC_P1_SHORT_ADDRESS);
+    HOLDS(dcc_station_forget(s, DCC_SHORT, 259) == DCC_P1_SHORT_ADDRESS);
+    HOLDS(dcc_station_forget(s, DCC_LONG, 10240) == DCC_P2_LONG_ADDRESS);
+    HOLDS(!memcmp(s, &before, sizeof before));
+    HOLDS(dcc_station_forget(s, DCC_ALL, 9) == 0 && dcc_station_forget(s, DCC_SHORT, 4) == 0);
+    HOLDS(dcc_station_entries(s) == 3);
+    HOLDS(dcc_station_forget(s, DCC_SHORT, 3) == 0);
+    HOLDS(dcc_station_entries(s) == 1 && dcc_station_waiting(s) == 1);
+    /* the waiting command stays, and becomes an entry */
+    HOLDS(sends(s, "loco s3 speed28 r 6") && dcc_station_entries(s) == 2);
+    HOLDS(sends(s, "loco l3 speed28 f 5") && sends(s, "loco s3 speed28 r 6"));
+    HOLDS(dcc_station_forget(s, DCC_LONG, 3) == 0 && dcc_station_forget(s, DCC_SHORT, 3) == 0);
+    HOLDS(dcc_station_entries(s) == 0 && sends(s, "idle"));
+}
+
+/* Turns a function, and returns true if the frame is that of the line. */
+static bool turns(dcc_functions *functions, uint8_t function, bool on, const char *line) {
+    dcc_frame expected = frame_of(line), frame = {0};
+    HOLDS(dcc_functions_turn(functions, DCC_SHORT, 3, function, on, &frame) == 0);
+    HOLDS(dcc_functions_is_on(functions, function) == on);
+    return !memcmp(&frame, &expected, sizeof frame);
+}
+
+static void one_function_is_turned(void) {
+    static const struct {
+        uint8_t function;
+        bool on;
+        const char *line;
+    } rows[] = {
+        {0, true, "loco s3 functions 0 16"}, {1, true, "loco s3 functions 0 17"}, {4, true, "loco s3 functions 0 25"},
+        {0, false, "loco s3 functions 0 9"}, {5, true, "loco s3 functions 5 1"}, {8, true, "loco s3 functions 5 9"},
+        {9, true, "loco s3 functions 9 1"}, {12, true, "loco s3 functions 9 9"}, {13, true, "loco s3 functions 13 1"},
+        {20, true, "loco s3 functions 13 129"}, {13, false, "loco s3 functions 13 128"},
+        {21, true, "loco s3 functions 21 1"}, {28, true, "loco s3 functions 21 129"},
+        {29, true, "loco s3 functions 29 1"}, {36, true, "loco s3 functions 29 129"},
+        {37, true, "loco s3 functions 37 1"}, {44, true, "loco s3 functions 37 129"},
+        {45, true, "loco s3 functions 45 1"}, {52, true, "loco s3 functions 45 129"},
+        {53, true, "loco s3 functions 53 1"}, {60, true, "loco s3 functions 53 129"},
+        {61, true, "loco s3 functions 61 1"}, {68, true, "loco s3 functions 61 129"},
+        {64, true, "loco s3 functions 61 137"}, {68, true, "loco s3 functions 61 137"},
+        {63, false, "loco s3 functions 61 137"}, {61, false, "loco s3 functions 61 136"},
+    };
+    dcc_functions functions = {{0, 0}};
+    dcc_small_loco loco;
+    uint8_t value = 0;
+    bool changed;
+    dcc_small_loco_new(&loco, 3, 0, 0, 2);
+    for (size_t i = 0; i < sizeof rows / sizeof *rows; i++) {
+        dcc_frame frame = frame_of(rows[i].line);
+        HOLDS(turns(&functions, rows[i].function, rows[i].on, rows[i].line));
+        /* a decoder that hears the frame has the same functions */
+        HOLDS(dcc_small_loco_apply(&loco, frame.bytes, frame.len, &value, &changed) == 0);
+        HOLDS(!memcmp(functions.on, loco.functions, sizeof loco.functions));
+    }
+    for (int function = 0; function < 256; function++)
+        HOLDS(dcc_functions_is_on(&functions, (uint8_t)function)
+              == (function <= 68 ? loco.functions[function / 64] >> function % 64 & 1 : 0));
+    /* a long address, and all locomotives */
+    dcc_frame frame, to_1000 = frame_of("loco l1000 functions 5 11"), to_all = frame_of("loco all functions 5 9");
+    HOLDS(dcc_functions_turn(&functions, DCC_LONG, 1000, 6, true, &frame) == 0 && !memcmp(&frame, &to_1000, 7));
+    HOLDS(dcc_functions_turn(&functions, DCC_ALL, 9, 6, false, &frame) == 0 && !memcmp(&frame, &to_all, 7));
+}
+
+static void a_turn_that_is_refused_changes_nothing(void) {
+    static const struct {
+        uint8_t to;
+        uint16_t address;
+        uint8_t function, fault;
+    } rows[] = {
+        {3, 3, 0, DCC_P10_WORD}, {255, 3, 69, DCC_P10_WORD}, {DCC_SHORT, 0, 0, DCC_P1_SHORT_ADDRESS},
+        {DCC_SHORT, 259, 69, DCC_P1_SHORT_ADDRESS}, {DCC_LONG, 10240, 69, DCC_P2_LONG_ADDRESS},
+        {DCC_SHORT, 3, 69, DCC_P13_STATE}, {DCC_ALL, 0, 255, DCC_P13_STATE},
+    };
+    /* bits above 68 are unused, and stay */
+    dcc_functions functions = {{0, ~0ull}}, before = functions;
+    for (size_t i = 0; i < sizeof rows / sizeof *rows; i++) {
+        dcc_frame frame = {.len = 99};
+        HOLDS(dcc_functions_turn(&functions, rows[i].to, rows[i].address, rows[i].function, true, &frame)
+              == rows[i].fault);
+        HOLDS(frame.len == 99 && !memcmp(&functions, &before, sizeof before));
+    }
+    HOLDS(!dcc_functions_is_on(&functions, 69) && !dcc_functions_is_on(&functions, 127));
+    HOLDS(dcc_functions_is_on(&functions, 68) == 1);
+    HOLDS(turns(&functions, 64, false, "loco s3 functions 61 240") && functions.on[0] == 0 && functions.on[1] == ~1ull);
+}
+
 int main(void) {
     names_have_their_numbers();
     a_framer_of_zeros_is_a_new_one();
@@ -1031,6 +1278,7 @@ int main(void) {
     a_packet_is_lost_for_each_cause();
     a_heard_packet_is_not_lost();
     a_run_is_taken_up_to_a_lost_packet();
+    an_array_is_taken_up_to_a_lost_packet();
     a_meter_of_zeros_is_a_new_one();
     a_meter_computes_statistics();
     a_meter_takes_an_array();
@@ -1068,5 +1316,11 @@ int main(void) {
     service_packets_have_their_frames();
     service_packets_and_their_faults();
     a_station_sends_and_refreshes();
+    a_station_stops_all();
+    a_station_forgets_one_address();
+    fields_of_a_packet_have_its_frame();
+    fields_of_a_packet_and_their_faults();
+    one_function_is_turned();
+    a_turn_that_is_refused_changes_nothing();
     return wrong;
 }

@@ -24,6 +24,29 @@ bool next_line(char line[LINE], uint32_t *len);
 /* Returns the next byte of the board's input, -1 at its end. */
 int read_byte(void);
 
+/* Reads the next byte of the serial line. Returns false if no byte has come. */
+bool take_byte(char *c);
+
+/* Written by a station with a programming track and called in an interrupt: the level of the programming track turns
+ * now. Returns the microseconds to the next turn, or 0 if the track has no power. The board then asks again after a
+ * millisecond. */
+uint16_t on_programming_timer(void);
+
+/* Turns the power of the main track on or off. */
+void set_power(bool is_on);
+
+/* Returns true if the decoder on the programming track draws at least 60 mA more than at rest. */
+bool draws_current(void);
+
+/* Of a decoder: draws the current of an acknowledgement, or ends it. */
+void draw_current(bool is_on);
+
+/* Of a decoder: reads the CVs from memory that lasts, for example flash. Returns false if the memory is empty. */
+bool load_cvs(uint8_t *cvs, uint32_t count);
+
+/* Of a decoder: writes the CVs to memory that lasts. */
+void store_cvs(const uint8_t *cvs, uint32_t count);
+
 /* Shows text, or a number, to whoever looks at the board. */
 void show(const char *text);
 void show_number(uint32_t number);

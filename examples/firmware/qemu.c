@@ -37,7 +37,22 @@ bool next_half(uint32_t *us) {
     return true;
 }
 
-void show(const char *text) {
+intptr_t open_word(uint32_t number, intptr_t mode) {
+    static char words[256];
+    char *at = words;
+    host_words(words, sizeof words);
+    for (; number > 0 && *at; number--) {
+        while (*at && *at != ' ') at++;
+        if (*at) at++;
+    }
+    for (uint32_t i = 0; at[i]; i++) {
+        if (at[i] == ' ') at[i] = 0;
+    }
+    return *at ? host_open(at, mode) : -1;
+}
+
+/* (a board with a UART has a function of its own) */
+__attribute__((weak)) void show(const char *text) {
     static intptr_t output = -1;
     uint32_t len = 0;
     if (output < 0) output = host_stream(HOST_OUTPUT);

@@ -16,16 +16,17 @@
 #endif
 
 #define FUNCTIONS(X) \
-    X(framer_new) X(push) X(push_run) X(push_many) X(lost_new) X(lost_push) X(lost_push_run) X(meter_new) \
-    X(meter_push_run) X(meter_push_many) X(meter_read) X(read) X(line) X(frame_of_line) X(halves) X(sender_start) \
-    X(sender_half) X(loco_new) X(loco_apply) X(loco_hears) X(board_new) X(board_apply) X(board_hears) X(service_new) \
-    X(service_apply) X(loco_power_up) X(service_power_up) X(small_loco_new) X(small_loco_cv) X(small_loco_apply) \
-    X(small_loco_hears) X(small_service_new) X(small_service_cv) X(small_service_apply) X(decoder_new) \
-    X(decoder_power_up) X(decoder_hear) X(decoder_end_service) X(decoder_set_main_only) X(board_decoder_new) \
-    X(board_decoder_power_up) X(board_decoder_hear) X(board_decoder_end_service) X(board_decoder_set_main_only) \
-    X(reader_new) X(reader_question) X(reader_answer) X(writer_new) X(writer_question) X(writer_answer) \
-    X(service_frame) X(service_read) X(station_new) X(station_command) X(station_next) X(station_waiting) \
-    X(station_entries)
+    X(framer_new) X(push) X(push_run) X(push_many) X(lost_new) X(lost_push) X(lost_push_run) X(lost_push_many) \
+    X(meter_new) X(meter_push_run) X(meter_push_many) X(meter_read) X(read) X(line) X(frame_of_line) \
+    X(frame_of_packet) X(halves) X(sender_start) X(sender_half) X(loco_new) X(loco_apply) X(loco_hears) X(board_new) \
+    X(board_apply) X(board_hears) X(service_new) X(service_apply) X(loco_power_up) X(service_power_up) \
+    X(small_loco_new) X(small_loco_cv) X(small_loco_apply) X(small_loco_hears) X(small_service_new) \
+    X(small_service_cv) X(small_service_apply) X(decoder_new) X(decoder_power_up) X(decoder_hear) \
+    X(decoder_end_service) X(decoder_set_main_only) X(board_decoder_new) X(board_decoder_power_up) \
+    X(board_decoder_hear) X(board_decoder_end_service) X(board_decoder_set_main_only) X(reader_new) \
+    X(reader_question) X(reader_answer) X(writer_new) X(writer_question) X(writer_answer) X(service_frame) \
+    X(service_read) X(station_new) X(station_command) X(station_next) X(station_stop) X(station_waiting) \
+    X(station_entries) X(station_forget) X(functions_turn) X(functions_is_on)
 
 #define NUMBER(name) F_##name,
 enum { FUNCTIONS(NUMBER) COUNT };
@@ -83,6 +84,7 @@ static dcc_reader reader;
 static dcc_writer writer;
 static dcc_service_packet service_packet;
 static dcc_station station;
+static dcc_functions functions;
 static uint8_t cvs[DCC_CVS], room[8], *frame;
 static uint8_t len;
 
@@ -232,9 +234,18 @@ static void call_finder(uint16_t us, uint32_t n) {
     uint32_t result;
     memset(&lost, 1, sizeof lost);
     do {
-        called(n == 1 ? F_lost_push : F_lost_push_run);
-        result = n == 1 ? dcc_lost_push(&finder, us, &lost) : dcc_lost_push_run(&finder, us, n, &lost);
-        n -= result ? result : n;
+        if (n > 1 && n <= 8) {
+            uint16_t halves[8], i;
+            uint64_t taken = 9;
+            for (i = 0; i < n; i++) halves[i] = us;
+            called(F_lost_push_many);
+            result = dcc_lost_push_many(&finder, halves, n, &lost, &taken);
+            n -= (uint32_t)taken;
+        } else {
+            called(n == 1 ? F_lost_push : F_lost_push_run);
+            result = n == 1 ? dcc_lost_push(&finder, us, &lost) : dcc_lost_push_run(&finder, us, n, &lost);
+            n -= result ? result : n;
+        }
         add(result), add_frame(&lost.frame), add_off_limits(&lost.ones), add_off_limits(&lost.zeros);
         add(lost.preamble.is_short), add(lost.preamble.ones);
         add(lost.preamble.after_refusal), add(lost.preamble.since_refusal);
@@ -618,6 +629,58 @@ static void call_service_packet(void) {
     add(service_packet.one);
 }
 
+/* Often the packet of the frame, and often the frame for a packet of kind 12. */
+static void call_packet_fields(void) {
+    static const uint8_t groups[] = {0, 5, 9, 13, 21, 29, 37, 45, 53, 61};
+    dcc_packet packet;
+    dcc_frame made;
+    memset(&packet, 0, sizeof packet);
+    memset(&made, 7, sizeof made);
+    if (dcc_read(frame, len, &packet) || one_of(2)) {
+        packet.kind = one_of(6) ? some_byte() : (uint8_t)below(14);
+        packet.to = one_of(9) ? some_byte() : (uint8_t)below(3);
+        packet.address = one_of(4) ? (uint16_t)next() : one_of(2) ? below(130) : below(10250);
+        packet.forward = one_of(2);
+        packet.bits = one_of(2) ? some_byte() : (uint8_t)below(34);
+        packet.group = one_of(9) ? some_byte() : groups[below(sizeof groups)];
+        packet.state = some_byte();
+        packet.on = one_of(2);
+        packet.cv = one_of(4) ? (uint16_t)next() : below(1027);
+        packet.value = some_byte();
+        packet.place = one_of(4) ? some_byte() : (uint8_t)below(9);
+        packet.one = one_of(2);
+        packet.output = one_of(4) ? some_byte() : (uint8_t)below(9);
+        packet.aspect = some_byte();
+    }
+    if (one_of(2)) {
+        made.len = one_of(9) ? some_byte() : len;
+        memcpy(made.bytes, frame, len < 6 ? len : 6);
+    }
+    called(F_frame_of_packet);
+    add(dcc_frame_of_packet(&packet, &made));
+    add_frame(&made);
+}
+
+static void call_functions(void) {
+    dcc_frame made;
+    uint8_t i, to, function;
+    uint16_t address;
+    bool on;
+    memset(&made, 7, sizeof made);
+    if (one_of(9)) memset(&functions, 0, sizeof functions);
+    if (one_of(9)) for (i = 0; i < 2; i++) functions.on[i] = some_bits();
+    to = one_of(9) ? some_byte() : (uint8_t)below(3);
+    address = one_of(4) ? (uint16_t)next() : one_of(2) ? below(130) : below(10250);
+    function = one_of(9) ? some_byte() : (uint8_t)below(71);
+    on = one_of(2);
+    called(F_functions_turn);
+    add(dcc_functions_turn(&functions, to, address, function, on, &made));
+    add_frame(&made);
+    add_bytes(&functions, sizeof functions);
+    called(F_functions_is_on);
+    add(dcc_functions_is_on(&functions, one_of(9) ? some_byte() : (uint8_t)below(71)));
+}
+
 static void call_station(void) {
     dcc_frame sent;
     if (first_or_one_of(50)) {
@@ -634,6 +697,16 @@ static void call_station(void) {
         dcc_station_next(&station, &sent);
         add_frame(&sent);
     } while (one_of(2));
+    if (first_or_one_of(20)) {
+        called(F_station_stop);
+        add(dcc_station_stop(&station));
+    }
+    if (first_or_one_of(9)) {
+        uint8_t to = one_of(9) ? some_byte() : (uint8_t)below(3);
+        uint16_t address = one_of(2) ? 3 : loco.address;
+        called(F_station_forget);
+        add(dcc_station_forget(&station, to, address));
+    }
     called(F_station_waiting);
     add(dcc_station_waiting(&station));
     called(F_station_entries);
@@ -654,6 +727,8 @@ int main(int argc, char **argv) {
         call_writer();
         call_service_packet();
         call_station();
+        call_packet_fields();
+        call_functions();
         is_first = false;
     }
     FUNCTIONS(SHOW)

@@ -32,7 +32,7 @@ static dcc_service service;
 static dcc_small_loco small_loco;
 static dcc_small_service small_service;
 static dcc_decoder decoder;
-static dcc_board_decoder board_decoder;
+static dcc_board_decoder board_decoder __attribute__((aligned(8)));
 static dcc_answer answer;
 static uint16_t needed;
 static bool changed;
@@ -40,6 +40,7 @@ static dcc_reader reader;
 static dcc_writer writer;
 static dcc_service_packet service_packet;
 static dcc_station station;
+static dcc_functions functions;
 static bool yes;
 static uint8_t value;
 static uint8_t cvs[DCC_CVS] = {[0] = 3, [28] = 2};
@@ -53,6 +54,7 @@ static void push_many(void) { dcc_push_many(&framer, &halves[at], 1, &outcome, &
 static void new_finder(void) { dcc_lost_new(&finder); }
 static void push_lost(void) { dcc_lost_push(&finder, halves[at], &lost); }
 static void push_lost_run(void) { dcc_lost_push_run(&finder, halves[at], 1, &lost); }
+static void push_lost_many(void) { dcc_lost_push_many(&finder, &halves[at], 1, &lost, &taken); }
 /* The last half-bit of a packet that is lost, since its preamble has 16 half-bits of ones. */
 static void make_end(void) {
     uint32_t count = dcc_halves(GIVEN, 14, sent);
@@ -67,6 +69,11 @@ static void push_meter(void) { dcc_meter_push_run(&meter, halves[at], 1); }
 static void push_meter_many(void) { dcc_meter_push_many(&meter, &halves[at], 1); }
 static void read_meter(void) { dcc_meter_read(&meter, &statistics); }
 static void read_frame(void) { dcc_read(GIVEN, &packet); }
+static void make_packet(void) {
+    dcc_read(GIVEN, &packet);
+    frame = frames[at];
+}
+static void frame_packet(void) { dcc_frame_of_packet(&packet, &frame); }
 static void write_line(void) { dcc_line(GIVEN, line); }
 static void send(void) { dcc_halves(GIVEN, 16, sent); }
 static void start_sender(void) { dcc_sender_start(&sender, GIVEN, &timing); }
@@ -137,9 +144,14 @@ static void command_station(void) { dcc_station_command(&station, GIVEN); }
 static void next_packet(void) { dcc_station_next(&station, &frame); }
 static void tell_waiting(void) { value = dcc_station_waiting(&station); }
 static void tell_entries(void) { value = dcc_station_entries(&station); }
+static void turn_function(void) {
+    dcc_functions_turn(&functions, DCC_LONG, 1000, (uint8_t)(at % 69), at % 2, &frame);
+}
+static void tell_function(void) { value = dcc_functions_is_on(&functions, (uint8_t)(at % 70)); }
 static void make_room(void) {
     if (dcc_station_waiting(&station) == 64) new_station();
 }
+static void stop_station(void) { value = dcc_station_stop(&station); }
 
 /* The most instructions of a first copy: a station has 128 entries, which it compares one after the other, and gets
  * a command of each kind, to all locomotives or to the locomotive of the last entry. The entries are of one kind,
@@ -183,6 +195,34 @@ static void make_full(void) {
     station = full;
     command_kind((int)(at / 2 % KINDS), at % 2 ? -1 : kind < ENTRY_KINDS ? 1127 : 1009);
 }
+
+/* Stations with 128 entries: each to a different locomotive, or of all kinds that one locomotive can have. */
+static dcc_station fulls[2];
+static void fill_stations(void) {
+    for (int i = 0; i < 128; i++) {
+        station = fulls[0];
+        if (i == 0) new_station();
+        command_kind(3, 1000 + i);
+        next_packet();
+        fulls[0] = station;
+        station = fulls[1];
+        if (i == 0) new_station();
+        command_kind(one_of_each[i % EACH], 1000 + i / EACH);
+        next_packet();
+        fulls[1] = station;
+    }
+    if (dcc_station_entries(&fulls[0]) != 128 || dcc_station_entries(&fulls[1]) != 128) exit(7);
+}
+static void take_full(void) { station = fulls[at]; }
+static void forget_address(void) { dcc_station_forget(&station, DCC_LONG, 1000); }
+/* The most instructions of a stop: 64 commands wait, and the stop withdraws none of them. */
+enum { SPEEDS = 6 };
+static void make_wait(void) {
+    new_station();
+    for (int i = 0; i < 64; i++) command_kind(SPEEDS + i % (KINDS - SPEEDS), 1000 + i);
+    full = station;
+}
+static void wait_again(void) { station = full; }
 
 static void read_line(void) { dcc_frame_of_line(lines[at], strlen(lines[at]), &frame); }
 
@@ -299,6 +339,7 @@ int main(void) {
     measure("dcc_lost_new", new_finder, 100);
     measure("dcc_lost_push", push_lost, half_count);
     measure("dcc_lost_push_run", push_lost_run, half_count);
+    measure("dcc_lost_push_many", push_lost_many, half_count);
     measure_behind("dcc_lost_push:lost", make_end, push_end, frame_count);
     measure("dcc_meter_new", new_meter, 100);
     measure("dcc_meter_push_run", push_meter, half_count);
@@ -307,6 +348,7 @@ int main(void) {
     measure("dcc_read", read_frame, frame_count);
     measure("dcc_line", write_line, frame_count);
     measure("dcc_frame_of_line", read_line, frame_count);
+    measure_behind("dcc_frame_of_packet", make_packet, frame_packet, frame_count);
     measure("dcc_halves", send, frame_count);
     measure("dcc_sender_start", start_sender, frame_count);
     begin_sending();
@@ -329,8 +371,14 @@ int main(void) {
     while (dcc_station_waiting(&station) > 0) next_packet();
     measure("dcc_station_next", next_packet, 1000);
     measure_behind("dcc_station_next:most", make_full, next_packet, KINDS * 2 * (ENTRY_KINDS + 1));
+    make_wait();
+    measure_behind("dcc_station_stop", wait_again, stop_station, 100);
     measure("dcc_station_waiting", tell_waiting, 100);
     measure("dcc_station_entries", tell_entries, 100);
+    fill_stations();
+    measure_behind("dcc_station_forget", take_full, forget_address, 2);
+    measure("dcc_functions_turn", turn_function, 1000);
+    measure("dcc_functions_is_on", tell_function, 1000);
     measure("dcc_service_new", new_service, 100);
     measure("dcc_service_apply", apply_service, frame_count);
     measure("dcc_service_power_up", power_up_service, 100);

@@ -14,6 +14,7 @@ uint32_t micros();
 unsigned long millis();
 void pinMode(uint8_t pin, uint8_t mode);
 void digitalWrite(uint8_t pin, uint8_t level);
+int digitalRead(uint8_t pin);
 void analogWrite(uint8_t pin, int value);
 inline uint8_t digitalPinToInterrupt(uint8_t pin) { return pin; }
 void attachInterrupt(uint8_t interrupt, void (*call)(), int mode);

@@ -291,6 +291,12 @@ test('lost packets are those of dcc lost', () => {
   for (const it of [' after ', 'ones', 'zeros']) assert.ok(wanted.includes(it), it);
   assert.ok(wanted.split('\n').length > 500);
   assert.equal(dcc.lost(dcc.durations(capture)).map((it) => `${it}\n`).join(''), wanted);
+  const [inParts, all] = [new dcc.LostFinder(), dcc.durations(capture)];
+  const lostInParts = [];
+  for (let at = 0; at < all.length; at += 999) lostInParts.push(...inParts.pushMany(all.subarray(at, at + 999)));
+  assert.equal(lostInParts.map((it) => `${it}\n`).join(''), wanted);
+  assert.deepEqual(inParts.pushMany([]), []);
+  assert.throws(() => inParts.pushMany([58, '58']), TypeError);
   const finder = new dcc.LostFinder();
   // the run after the packet goes on, and is the preamble of the next packet
   const packet = '100*14 58*4 100*4 58*4 100*6 58*2 100*6 58*4 100*8';

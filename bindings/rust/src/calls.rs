@@ -2,12 +2,14 @@
 use crate::board::Board;
 use crate::frame::Frame;
 use crate::framer::Framer;
+use crate::functions::Functions;
 use crate::loco::Loco;
 use crate::lost::{LostFinder, OffLimits};
 use crate::meter::{Meter, Tally};
 use crate::reader::Reader;
 use crate::sending::{Halves, Timing};
 use crate::service::Service;
+use crate::service_packet::ServiceNumbers;
 use crate::station::Station;
 use crate::track::ServicePart;
 use crate::track_board::TrackBoard;
@@ -168,6 +170,13 @@ extern "C" {
         n: u32,
         packet: *mut Lost,
     ) -> u32;
+    pub(crate) fn dcc_lost_push_many(
+        finder: *mut LostFinder,
+        halves: *const u16,
+        len: u64,
+        packet: *mut Lost,
+        taken: *mut u64,
+    ) -> u8;
     pub(crate) fn dcc_meter_new(meter: *mut Meter);
     pub(crate) fn dcc_meter_push_run(meter: *mut Meter, us: u16, n: u32) -> u8;
     pub(crate) fn dcc_meter_push_many(meter: *mut Meter, halves: *const u16, len: u64) -> u8;
@@ -175,6 +184,7 @@ extern "C" {
     pub(crate) fn dcc_read(frame: *const u8, len: u64, packet: *mut Numbers) -> u8;
     pub(crate) fn dcc_line(frame: *const u8, len: u64, line: *mut u8) -> u8;
     pub(crate) fn dcc_frame_of_line(line: *const u8, len: u64, frame: *mut Frame) -> u8;
+    pub(crate) fn dcc_frame_of_packet(packet: *const Numbers, frame: *mut Frame) -> u8;
     pub(crate) fn dcc_sender_start(
         sender: *mut Halves,
         frame: *const u8,
@@ -229,11 +239,24 @@ extern "C" {
     pub(crate) fn dcc_writer_new(writer: *mut Writer, cv: u16, value: u8) -> u8;
     pub(crate) fn dcc_writer_question(writer: *const Writer, question: *mut Frame) -> u8;
     pub(crate) fn dcc_writer_answer(writer: *mut Writer, yes: bool) -> u8;
+    pub(crate) fn dcc_service_frame(packet: *const ServiceNumbers, frame: *mut Frame) -> u8;
+    pub(crate) fn dcc_service_read(frame: *const u8, len: u64, packet: *mut ServiceNumbers) -> u8;
     pub(crate) fn dcc_station_new(station: *mut Station, queue: u8, slots: u8, repeats: u8) -> u8;
     pub(crate) fn dcc_station_command(station: *mut Station, frame: *const u8, len: u64) -> u8;
     pub(crate) fn dcc_station_next(station: *mut Station, frame: *mut Frame);
+    pub(crate) fn dcc_station_stop(station: *mut Station) -> u8;
+    pub(crate) fn dcc_station_forget(station: *mut Station, to: u8, address: u16) -> u8;
     pub(crate) fn dcc_station_waiting(station: *const Station) -> u8;
     pub(crate) fn dcc_station_entries(station: *const Station) -> u8;
+    pub(crate) fn dcc_functions_turn(
+        functions: *mut Functions,
+        to: u8,
+        address: u16,
+        function: u8,
+        on: bool,
+        frame: *mut Frame,
+    ) -> u8;
+    pub(crate) fn dcc_functions_is_on(functions: *const Functions, function: u8) -> u8;
 }
 
 // (as the header says)
@@ -256,4 +279,6 @@ const _: () = assert!(size_of::<TrackLoco>() == 1088);
 const _: () = assert!(size_of::<TrackBoard>() == 1046);
 const _: () = assert!(size_of::<Reader>() == 4);
 const _: () = assert!(size_of::<Writer>() == 4);
-const _: () = assert!(size_of::<Station>() == 1800);
+const _: () = assert!(size_of::<Station>() == 1801);
+const _: () = assert!(size_of::<ServiceNumbers>() == 6);
+const _: () = assert!(size_of::<Functions>() == 16);

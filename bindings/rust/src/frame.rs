@@ -24,7 +24,7 @@ pub enum FrameFault {
     ErrorByte,
 }
 
-/// The first error of a packet line, 1 to 14 for P1 to P14.
+/// The first error of a packet line, or of the values of a packet, 1 to 14 for P1 to P14.
 #[derive(Clone, Copy, Debug, PartialEq, Eq)]
 pub struct LineFault(pub u8);
 
@@ -32,6 +32,12 @@ impl Frame {
     /// An empty frame, for the library to write.
     pub(crate) const NONE: Frame = Frame {
         len: 0,
+        bytes: [0; 6],
+    };
+
+    /// The reset of all decoders.
+    pub(crate) const RESET: Frame = Frame {
+        len: 3,
         bytes: [0; 6],
     };
 

@@ -1,5 +1,5 @@
 //! Packets that a decoder does not hear.
-use crate::calls::{dcc_lost_new, dcc_lost_push, dcc_lost_push_run, Lost};
+use crate::calls::{dcc_lost_new, dcc_lost_push, dcc_lost_push_many, dcc_lost_push_run, Lost};
 use crate::frame::Frame;
 use core::fmt;
 
@@ -70,6 +70,15 @@ impl LostFinder {
             0 => None,
             taken => Some((taken, packet(&lost))),
         }
+    }
+
+    /// Takes half-bits of `halves` in order, as calls of [`push`](LostFinder::push) would, up to the first half-bit at
+    /// which a packet is lost. Returns the number of half-bits that it took, and this packet.
+    pub fn push_many(&mut self, halves: &[u16]) -> (usize, Option<LostPacket>) {
+        let (mut lost, mut taken) = (Lost::NONE, 0);
+        let len = halves.len() as u64;
+        let result = unsafe { dcc_lost_push_many(self, halves.as_ptr(), len, &mut lost, &mut taken) };
+        (taken as usize, if result == 0 { None } else { Some(packet(&lost)) })
     }
 }
 

@@ -1,6 +1,6 @@
 //! The content of a packet.
-use crate::calls::Numbers;
-use crate::frame::Frame;
+use crate::calls::{dcc_frame_of_packet, Numbers};
+use crate::frame::{Frame, LineFault};
 
 /// The address of a packet to locomotives.
 #[derive(Clone, Copy, Debug, PartialEq, Eq, Hash)]
@@ -128,6 +128,26 @@ impl Address {
             _ => Some(Address::Long(number)),
         }
     }
+
+    /// Its kind and its number, as the library takes them.
+    pub(crate) fn numbers(self) -> (u8, u16) {
+        match self {
+            Address::All => (0, 0),
+            Address::Short(number) => (1, number.into()),
+            Address::Long(number) => (2, number),
+        }
+    }
+
+    /// The fields of a packet of this kind to this address.
+    fn fields(self, kind: u8) -> Numbers {
+        let (to, address) = self.numbers();
+        Numbers {
+            kind,
+            to,
+            address,
+            ..Numbers::default()
+        }
+    }
 }
 
 impl Packet {
@@ -189,6 +209,94 @@ impl Packet {
                 aspect: it.aspect,
             },
             _ => Packet::Other(*frame),
+        }
+    }
+
+    /// Returns the frame of the packet. [`Frame::packet`] returns this packet for the frame.
+    ///
+    /// Errors: the first error of the packet line with these values. P1 to P9 or P14 if a value is out of its range,
+    /// P10 for a group that does not exist, P12 if the frame of an `Other` packet is that of another packet.
+    ///
+    /// ```
+    /// use dcc::{Address, LineFault, Packet};
+    ///
+    /// let packet = Packet::Speed28 { to: Address::Short(3), forward: true, bits: 4 };
+    /// assert_eq!(packet.frame().unwrap().to_string(), "loco s3 speed28 f 4");
+    /// assert_eq!(Packet::Reset { to: Address::Short(128) }.frame(), Err(LineFault(1)));
+    /// ```
+    pub fn frame(&self) -> Result<Frame, LineFault> {
+        let mut frame = match self {
+            Packet::Other(frame) => *frame,
+            _ => Frame::NONE,
+        };
+        match unsafe { dcc_frame_of_packet(&self.numbers(), &mut frame) } {
+            0 => Ok(frame),
+            fault => Err(LineFault(fault)),
+        }
+    }
+
+    /// The fields of the packet, as the library takes them.
+    fn numbers(&self) -> Numbers {
+        let none = Numbers::default();
+        match *self {
+            Packet::Idle => none,
+            Packet::Reset { to } => to.fields(1),
+            Packet::Speed28 { to, forward, bits } => Numbers {
+                forward,
+                bits,
+                ..to.fields(2)
+            },
+            Packet::Speed128 { to, forward, bits } => Numbers {
+                forward,
+                bits,
+                ..to.fields(3)
+            },
+            Packet::Functions { to, group, bits } => Numbers {
+                group,
+                bits,
+                ..to.fields(4)
+            },
+            Packet::State { to, number, on } => Numbers {
+                state: number,
+                on,
+                ..to.fields(5)
+            },
+            Packet::CvWrite { to, cv, value } => Numbers {
+                cv,
+                value,
+                ..to.fields(6)
+            },
+            Packet::CvVerify { to, cv, value } => Numbers {
+                cv,
+                value,
+                ..to.fields(7)
+            },
+            Packet::CvBitWrite { to, cv, place, one } => Numbers {
+                cv,
+                place,
+                one,
+                ..to.fields(8)
+            },
+            Packet::CvBitVerify { to, cv, place, one } => Numbers {
+                cv,
+                place,
+                one,
+                ..to.fields(9)
+            },
+            Packet::Accessory { board, output, on } => Numbers {
+                kind: 10,
+                address: board,
+                output,
+                on,
+                ..none
+            },
+            Packet::Signal { address, aspect } => Numbers {
+                kind: 11,
+                address,
+                aspect,
+                ..none
+            },
+            Packet::Other(_) => Numbers { kind: 12, ..none },
         }
     }
 }

@@ -3,9 +3,9 @@ mod common;
 
 use common::{cvs, dcc, frame, hex, output, program, rows, Fleet};
 use dcc::{
-    Address, Board, CommandFault, Frame, FrameFault, Framer, LineFault, Loco, Meter, MeterIsFull,
-    Reader, Reading, Refusal, Seen, Service, Speed, Station, Tally, Timing, TimingFault, Turnouts,
-    Writer, Writing,
+    question_frames, Address, Board, CommandFault, Frame, FrameFault, Framer, Functions, LineFault,
+    Loco, Meter, MeterIsFull, Packet, Reader, Reading, Refusal, Seen, Service, ServicePacket,
+    Speed, Station, Tally, Timing, TimingFault, Turnouts, Writer, Writing,
 };
 use std::fmt::Write as _;
 use std::process::Command;
@@ -265,6 +265,243 @@ fn a_station_counts() {
     assert_eq!(format!("{full:?}"), "Station { waiting: 64, entries: 0 }");
     full.send_next();
     assert_eq!(state(&full), (64, 1));
+}
+
+#[test]
+fn a_station_stops_all() {
+    let mut station = Station::new(4, 4, 2).unwrap();
+    let (write, stop, standing) = (
+        frame("loco s3 cv write 29 2"),
+        frame("loco all speed28 f 3"),
+        frame("loco s4 speed128 r 1"),
+    );
+    let moving = [
+        frame("loco s3 speed28 f 20"),
+        frame("loco s5 speed128 r 9"),
+    ];
+    for it in [write, moving[0], standing, moving[1]] {
+        station.command(&it).unwrap();
+    }
+    assert_eq!(station.send_next(), write);
+    assert_eq!(station.stop(), 2);
+    assert_eq!((station.waiting(), station.entries()), (2, 0));
+    let sent = [(); 8].map(|_| station.send_next());
+    assert_eq!(
+        sent,
+        [stop, stop, write, write, write, standing, standing, standing]
+    );
+    assert_eq!(station.stop(), 0);
+    assert_eq!(station.send_next(), stop);
+    assert_eq!(station.stop(), 0);
+    let sent = [(); 3].map(|_| station.send_next());
+    assert_eq!(sent, [stop, stop, standing]);
+}
+
+#[test]
+fn a_station_forgets_one_address() {
+    let mut station = Station::new(4, 8, 1).unwrap();
+    let (s3, l3, later) = (
+        frame("loco s3 speed28 f 4"),
+        frame("loco l3 speed28 f 5"),
+        frame("loco s3 speed28 r 6"),
+    );
+    for it in [s3, l3] {
+        station.command(&it).unwrap();
+        assert_eq!(station.send_next(), it);
+    }
+    station.command(&later).unwrap();
+    for (to, fault) in [
+        (Address::Short(0), 1),
+        (Address::Short(128), 1),
+        (Address::Long(10240), 2),
+    ] {
+        assert_eq!(station.forget(to), Err(LineFault(fault)));
+    }
+    for to in [Address::All, Address::Short(4), Address::Long(4)] {
+        assert_eq!(station.forget(to), Ok(()));
+        assert_eq!((station.waiting(), station.entries()), (1, 2));
+    }
+    assert_eq!(station.forget(Address::Short(3)), Ok(()));
+    assert_eq!((station.waiting(), station.entries()), (1, 1));
+    assert_eq!([(); 3].map(|()| station.send_next()), [later, l3, later]);
+    assert_eq!(station.forget(Address::Long(3)), Ok(()));
+    assert_eq!(station.entries(), 1);
+}
+
+#[test]
+fn one_function_is_turned() {
+    let mut loco = Loco::new(&cvs(&[(1, 3), (29, 2)]));
+    let mut functions = Functions::new();
+    let to = Address::Short(3);
+    for (function, on, line) in [
+        (0, true, "loco s3 functions 0 16"),
+        (4, true, "loco s3 functions 0 24"),
+        (0, false, "loco s3 functions 0 8"),
+        (5, true, "loco s3 functions 5 1"),
+        (12, true, "loco s3 functions 9 8"),
+        (13, true, "loco s3 functions 13 1"),
+        (20, true, "loco s3 functions 13 129"),
+        (13, false, "loco s3 functions 13 128"),
+        (28, true, "loco s3 functions 21 128"),
+        (29, true, "loco s3 functions 29 1"),
+        (44, true, "loco s3 functions 37 128"),
+        (45, true, "loco s3 functions 45 1"),
+        (53, true, "loco s3 functions 53 1"),
+        (61, true, "loco s3 functions 61 1"),
+        (68, true, "loco s3 functions 61 129"),
+    ] {
+        let turned = functions.turn(to, function, on).unwrap();
+        assert_eq!(turned, frame(line));
+        loco.apply(&turned);
+        assert!((0..=68).all(|n| functions.is_on(n) == loco.function(n)));
+        assert_eq!(functions.is_on(function), on);
+    }
+    assert!((69..=255).all(|n| !functions.is_on(n)));
+    let before = functions.clone();
+    for (to, function, fault) in [
+        (Address::Short(128), 69, 1),
+        (Address::Long(10240), 0, 2),
+        (to, 69, 13),
+        (Address::All, 255, 13),
+    ] {
+        assert_eq!(functions.turn(to, function, true), Err(LineFault(fault)));
+    }
+    assert_eq!(functions, before);
+    let turned = functions.turn(Address::Long(1000), 6, true);
+    assert_eq!(turned, Ok(frame("loco l1000 functions 5 3")));
+    let turned = functions.turn(Address::All, 6, false);
+    assert_eq!(turned, Ok(frame("loco all functions 5 1")));
+    assert_eq!(Functions::new(), Functions::default());
+}
+
+#[test]
+fn a_packet_has_its_frame() {
+    for line in rows() {
+        let it = frame(&line);
+        assert_eq!(it.packet().frame(), Ok(it), "{line}");
+    }
+    let (to, cv) = (Address::Short(3), 1025);
+    let (group, bits, place, one) = (4, 32, 8, true);
+    let (forward, value) = (true, 0);
+    for (packet, fault) in [
+        (
+            Packet::Reset {
+                to: Address::Short(0),
+            },
+            1,
+        ),
+        (
+            Packet::Reset {
+                to: Address::Long(10240),
+            },
+            2,
+        ),
+        (Packet::Speed28 { to, forward, bits }, 8),
+        (
+            Packet::Speed128 {
+                to,
+                forward,
+                bits: 128,
+            },
+            8,
+        ),
+        (Packet::Functions { to, group, bits }, 10),
+        (Packet::Functions { to, group: 0, bits }, 9),
+        (
+            Packet::State {
+                to,
+                number: 128,
+                on: true,
+            },
+            14,
+        ),
+        (Packet::CvWrite { to, cv, value }, 6),
+        (Packet::CvVerify { to, cv: 0, value }, 6),
+        (Packet::CvBitWrite { to, cv, place, one }, 6),
+        (
+            Packet::CvBitVerify {
+                to,
+                cv: 1,
+                place,
+                one,
+            },
+            7,
+        ),
+        (
+            Packet::Accessory {
+                board: 512,
+                output: 8,
+                on: true,
+            },
+            3,
+        ),
+        (
+            Packet::Accessory {
+                board: 511,
+                output: 8,
+                on: true,
+            },
+            4,
+        ),
+        (
+            Packet::Signal {
+                address: 2048,
+                aspect: 0,
+            },
+            5,
+        ),
+        (Packet::Other(frame("idle")), 12),
+    ] {
+        assert_eq!(packet.frame(), Err(LineFault(fault)), "{packet:?}");
+    }
+}
+
+#[test]
+fn a_service_packet_has_its_frame() {
+    let (cv, value, place, one) = (1024, 165, 5, true);
+    for (packet, bytes) in [
+        (ServicePacket::Write { cv: 1, value: 10 }, "7c000a76"),
+        (ServicePacket::Verify { cv, value }, "77ffa52d"),
+        (ServicePacket::BitWrite { cv, place, one }, "7bfffd79"),
+        (
+            ServicePacket::BitVerify {
+                cv,
+                place,
+                one: false,
+            },
+            "7bffe561",
+        ),
+    ] {
+        let it = packet.frame().unwrap();
+        assert_eq!(format!("{it:x}"), bytes);
+        assert_eq!(ServicePacket::read(&it), Some(packet));
+    }
+    for (packet, fault) in [
+        (ServicePacket::Write { cv: 0, value }, 6),
+        (ServicePacket::Verify { cv: 1025, value }, 6),
+        (
+            ServicePacket::BitWrite {
+                cv: 0,
+                place: 8,
+                one,
+            },
+            6,
+        ),
+        (ServicePacket::BitVerify { cv, place: 8, one }, 7),
+    ] {
+        assert_eq!(packet.frame(), Err(LineFault(fault)), "{packet:?}");
+    }
+    for line in ["idle", "loco s3 speed28 f 4", "frame 7800d8a0"] {
+        assert_eq!(ServicePacket::read(&frame(line)), None);
+    }
+}
+
+#[test]
+fn a_question_has_eight_frames() {
+    let question = Writer::new(1, 10).unwrap().question();
+    let bytes = question_frames(&question).map(|it| format!("{it:x}"));
+    assert_eq!(bytes[..3], ["000000"; 3]);
+    assert_eq!(bytes[3..], ["7c000a76"; 5]);
 }
 
 #[test]
@@ -528,7 +765,14 @@ fn the_example_refuses_what_show_refuses() {
 #[test]
 fn a_meter_takes_half_bits_runs_and_lists() {
     let (mut one_by_one, mut by_runs, mut at_once) = (Meter::new(), Meter::new(), Meter::new());
-    let runs = [(58, 28), (100, 14), (58, 4), (20000, 2), (58, 66_500), (100, 40)];
+    let runs = [
+        (58, 28),
+        (100, 14),
+        (58, 4),
+        (20000, 2),
+        (58, 66_500),
+        (100, 40),
+    ];
     let mut halves = Vec::new();
     for (us, n) in runs {
         by_runs.push_run(us, n).unwrap();
@@ -541,8 +785,14 @@ fn a_meter_takes_half_bits_runs_and_lists() {
     let found = by_runs.statistics();
     assert_eq!(found, one_by_one.statistics());
     assert_eq!(found, at_once.statistics());
-    assert_eq!((found.halves, found.above.most, found.preamble, found.gap), (66_588, 20000, None, None));
-    assert_eq!((found.ones.least, found.zeros.count, found.below), (58, 54, Tally::default()));
+    assert_eq!(
+        (found.halves, found.above.most, found.preamble, found.gap),
+        (66_588, 20000, None, None)
+    );
+    assert_eq!(
+        (found.ones.least, found.zeros.count, found.below),
+        (58, 54, Tally::default())
+    );
 }
 
 #[test]
@@ -554,6 +804,9 @@ fn a_full_meter_takes_nothing() {
     assert_eq!(meter.push_many(&[58]), Err(MeterIsFull));
     assert_eq!(meter.push_many(&[]), Ok(()));
     assert_eq!(meter.statistics().halves, u32::MAX);
-    assert_eq!(MeterIsFull.to_string(), "a meter takes fewer than 2^32 half-bits");
+    assert_eq!(
+        MeterIsFull.to_string(),
+        "a meter takes fewer than 2^32 half-bits"
+    );
     assert_eq!(format!("{meter:?}"), "Meter");
 }

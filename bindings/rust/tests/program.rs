@@ -201,6 +201,22 @@ fn in_runs_the_same_packets_are_lost() {
     assert!(listing.ends_with(" lost loco s3 speed28 f 4: preamble 16\n"));
 }
 
+#[test]
+fn in_arrays_the_same_packets_are_lost() {
+    let halves = faulty(&random_lines());
+    let (mut finder, mut listing, mut at) = (LostFinder::new(), String::new(), 0);
+    for mut left in halves.chunks(1000) {
+        while !left.is_empty() {
+            let (taken, found) = finder.push_many(left);
+            assert!(found.is_some() || taken == left.len());
+            (at, left) = (at + taken, &left[taken..]);
+            listing.extend(found.map(|it| lost_line(at, &it)));
+        }
+    }
+    assert!(listing == dcc(&["lost", "--words"], &capture(&halves)));
+    assert_eq!(finder.push_many(&[]), (0, None));
+}
+
 /// The line of a packet, by what its fields say.
 fn line_of(packet: &Packet) -> String {
     match packet {
@@ -242,6 +258,7 @@ fn the_fields_of_a_packet_are_those_of_its_line() {
     for line in lines.lines() {
         let frame: Frame = line.parse().unwrap();
         assert_eq!(line_of(&frame.packet()), frame.to_string());
+        assert_eq!(frame.packet().frame(), Ok(frame));
         assert_eq!(Frame::new(frame.bytes()), Ok(frame));
     }
 }

@@ -1,5 +1,5 @@
--- Zeros in a C program's memory are a station that has no room. Service packets as fields.
-use Rattle.std.proofs.Common.{◌≡◌, ℕ, true, refl, inl, arith, replicate, lit≤}
+-- Zeros in a C program's memory are a station that has no room. Packets and service packets as fields.
+use Rattle.std.proofs.Common.{◌≡◌, ℕ, true, false, refl, inl, arith, replicate, lit≤}
 use Rattle.dcc_packet.specs.declared.cv.BitPlace.{BitPlace}
 use Rattle.dcc_packet.specs.declared.cv.CvNumber.{CvNumber}
 use Rattle.dcc_packet.specs.declared.packet.Packet.TheVariants.{Idle}
@@ -9,6 +9,8 @@ use Rattle.dcc_c.specs.declared.service_packet.DccServicePacket.{DccServicePacke
 use Rattle.dcc_c.specs.declared.station_ring.DccRing.{DccRing}
 use Rattle.dcc_c.specs.declared.station_numbers.DccStation.{DccStation}
 use Rattle.dcc_c.specs.KeptPacketLaw.{IsKeptPacket}
+use Rattle.dcc_c.specs.PacketFields.{fault_or_zero, packet_of_fields}
+use Rattle.dcc_c.specs.Packets.{of_kind}
 use Rattle.dcc_c.specs.ServicePackets.{service_packet_of, service_packet_answer, service_packet_numbers}
 use Rattle.dcc_c.specs.Stations.{sending_of}
 
@@ -28,6 +30,7 @@ abbrev zeros : DccStation
 zeros = record {
   commands = no_packets;
   entries = no_packets;
+  stopping = false;
   sent = 0;
   repeats = 0;
   few = (omega arith, omega arith);
@@ -50,10 +53,16 @@ record Rows : Type 0 where
       ≡ record { cv = 1024; kind = 8; value = 0; place = 5; one = true }
   kind_5_is_p10 : service_packet_answer (service_packet_of (fields 5 0 8)) ≡ 10
   kind_10_is_p10 : service_packet_answer (service_packet_of (fields 10 1 0)) ≡ 10
+  packet_of_kind_13_is_p10 : fault_or_zero (packet_of_fields (of_kind 13)) ≡ 10
+  address_of_kind_3_is_p10 : fault_or_zero (packet_of_fields (record (of_kind 1) { to = 3 })) ≡ 10
+  group_4_is_p10 : fault_or_zero (packet_of_fields (record (of_kind 4) { group = 4; bits = 255 })) ≡ 10
 
 rows : Rows
 rows = record {
   bit_write_of_cv1024 = refl;
   kind_5_is_p10 = refl;
   kind_10_is_p10 = refl;
+  packet_of_kind_13_is_p10 = refl;
+  address_of_kind_3_is_p10 = refl;
+  group_4_is_p10 = refl;
 }

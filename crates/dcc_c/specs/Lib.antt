@@ -14,9 +14,11 @@ pub mod Senders
 pub mod Readers
 pub mod Writers
 pub mod ServicePackets
+pub mod PacketFields
 pub mod KeptPackets
 pub mod KeptPacketLaw
 pub mod Stations
+pub mod Functions
 pub mod HeldRegisters
 pub mod TrackAnswers
 pub mod Decoders

@@ -13,10 +13,10 @@ use Rattle.dcc_c.specs.Frames.{frame_answer}
 abbrev pub ring_of : DccRing → Buffer Packet
 ring_of r = buffer (ring_items r.start r.len r.packets) r.capacity
 
--- the state of the station in the C structure `s`: its queue, the number of copies sent, its
--- entries and its sizes
+-- the state of the station in the C structure `s`: its queue, if a stop waits, the number of copies
+-- sent, its entries and its sizes
 abbrev pub sending_of : DccStation → Sending
-sending_of s = sending_over (ring_of s.commands) s.sent (ring_of s.entries) s.repeats
+sending_of s = sending_over (ring_of s.commands) s.stopping s.sent (ring_of s.entries) s.repeats
 
 -- `bytes` are the frame of `packet`
 abbrev pub FrameSpells : List ℕ → Packet → Type 0

@@ -4,6 +4,7 @@ ghost use Rattle.std.specs.Prelude.{◌≡◌, ◌≢◌, true, false, nat_le, S
 ghost use Rattle.dcc_packet.specs.declared.accessory.Board.{Board};
 ghost use Rattle.dcc_packet.specs.declared.packet.Packet.{Packet};
 ghost use Rattle.dcc_packet.specs.Spelling.{spelling};
+ghost use Rattle.dcc_wire.specs.Frames.{IsFrame};
 ghost use Rattle.dcc_regs.specs.declared.board_state.BoardState.{BoardState};
 ghost use Rattle.dcc_regs.specs.declared.register.Who.{Who};
 ghost use Rattle.dcc_regs.specs.Board.{board_registers, made};
@@ -13,7 +14,7 @@ ghost use Rattle.dcc_c.specs.Boards.{is_single, board_numbers};
 ghost use Rattle.dcc_regs.specs.BoardState.{board_map, board_who};
 ghost use Rattle.dcc_c.specs.Frames.{frame_answer};
 
-use crate::frame::frame_of;
+use crate::frame::{check_frame, frame_of};
 use dcc_packet::{Board, Packet, PacketFault};
 use dcc_regs::{BoardState, Decoder, PackedBoard, Who, hears};
 
@@ -104,15 +105,29 @@ pub extern "C" fn dcc_board_hears(board: &DccBoard, frame: &[u8], heard: &mut bo
     ensures refused { result ≢ 0 → result ≢ frame_answer frame.now → result ≡ 13 }
     ensures untold { result ≢ 0 → heard.new ≡ heard.old }
 {
-    match frame_of(frame) {
-        Ok(frame) => match own_board(board) {
+    match check_frame(frame) {
+        Ok(()) => match own_board(board) {
             Ok(own) => {
-                *heard = hears(Who::Board(own), &Packet::read(&frame));
+                *heard = hears_frame(own, frame);
                 0
             }
             Err(refusal) => refusal.number(),
         },
         Err(number) => number,
+    }
+}
+
+/// Returns true if the board `own` hears the packet of the frame `frame`. No board hears a frame
+/// that is in no row.
+#[inline(always)]
+fn hears_frame(own: Board, frame: &[u8]) -> bool
+    requires { IsFrame frame.now }
+    ensures { (packet : Packet) × (spelling packet ≡ frame.now)
+        × (result ≡ is_heard_by (Who.Board own) packet) }
+{
+    match Packet::of_row(frame) {
+        Some(packet) => hears(Who::Board(own), &packet),
+        None => false,
     }
 }
 

@@ -18,26 +18,13 @@ pub struct DccFrame {
 
 impl DccFrame {
     ghost use Rattle.std.specs.Prelude.{◌≡◌, ◌≤◌, ◌↔◌, IsTrue, [], length};
-    ghost use Rattle.dcc_wire.specs.Frames.{IsFrame};
+    ghost use Rattle.dcc_wire.specs.Frames.{IsFrame, with_error_byte};
     ghost use Rattle.dcc_c.specs.Frames.{bytes_of, frame_numbers};
 
     /// Creates the struct of the bytes `bytes`. There must be at most six bytes.
-    pub fn of(bytes: &[u8]) -> DccFrame
-        requires { length bytes.now ≤ 6 }
-        ensures { result ≡ frame_numbers bytes.now }
-    {
-        let mut padded = [0u8; 6];
-        padded[..bytes.len()].copy_from_slice(bytes);
-        DccFrame {
-            len: bytes.len() as u8,
-            bytes: padded,
-        }
-    }
-
-    /// Creates the struct of the bytes of a frame.
     // reads byte by byte, since a copy of variable length would be a function call
     #[inline(always)]
-    pub(crate) fn of_frame(bytes: &[u8]) -> DccFrame
+    pub fn of(bytes: &[u8]) -> DccFrame
         requires { length bytes.now ≤ 6 }
         ensures { result ≡ frame_numbers bytes.now }
     {
@@ -51,6 +38,40 @@ impl DccFrame {
                 byte_or_zero(bytes, 4),
                 byte_or_zero(bytes, 5),
             ],
+        }
+    }
+
+    /// Creates the struct of the frame `frame`.
+    #[inline(always)]
+    pub(crate) fn of_frame(frame: &Frame) -> DccFrame
+        ensures { result ≡ frame_numbers frame.now }
+    {
+        DccFrame {
+            len: frame.bytes().len() as u8,
+            bytes: frame.padded(),
+        }
+    }
+
+    /// Creates the struct of the frame that consists of three bytes and their error byte.
+    #[inline(always)]
+    pub(crate) fn of_three(bytes: [u8; 3]) -> DccFrame
+        ensures { result ≡ frame_numbers (with_error_byte bytes) }
+    {
+        let [first, second, third] = bytes;
+        DccFrame {
+            len: 4,
+            bytes: [first, second, third, first ^ second ^ third, 0, 0],
+        }
+    }
+
+    /// Creates the struct without bytes.
+    #[inline(always)]
+    pub(crate) fn none() -> DccFrame
+        ensures { result ≡ frame_numbers [] }
+    {
+        DccFrame {
+            len: 0,
+            bytes: [0; 6],
         }
     }
 
@@ -94,7 +115,7 @@ impl DccFrame {
         if self.len == 0 {
             return false;
         }
-        self.is(&DccFrame::of_frame(frame))
+        self.is(&DccFrame::of(frame))
     }
 
     /// Returns the bytes of the frame, without the zeros after it.

@@ -1,7 +1,6 @@
 //! Functions on framers, in memory that the caller owns.
 
 ghost use Rattle.std.specs.Prelude.{◌≡◌, ◌≢◌, ◌≤◌, ◌+◌, ◌-◌, ◌++◌, ◌∷◌, [], ℕ, List, length, replicate};
-ghost use Rattle.dcc_wire.specs.declared.seen.Seen.TheVariants.{Nothing};
 ghost use Rattle.dcc_wire.specs.Framing.{Hunting, StandsFor, seen, report_at};
 ghost use Rattle.dcc_wire.specs.Half.{class_of};
 ghost use Rattle.dcc_wire.specs.Kept.{kept_rest};
@@ -10,7 +9,7 @@ ghost use Rattle.dcc_wire.specs.Runs.{rest_after_run};
 ghost use Rattle.dcc_c.specs.Outcomes.{outcome_numbers, outcome_seen, seen_at_answer};
 
 use crate::outcome::{DccOutcome, outcome_of};
-use dcc_wire::{Framer, KeptFramer, RunSeen, Seen};
+use dcc_wire::{Framer, KeptFramer};
 
 /// Creates a framer that has taken no half-bit.
 #[unsafe(no_mangle)]
@@ -43,8 +42,8 @@ pub extern "C" fn dcc_push(framer: &mut KeptFramer, us: u16, outcome: &mut DccOu
     push_apart(framer, us, outcome)
 }
 
-/// Takes a half-bit that ends an outcome. This function is separate from the code that runs for
-/// each half-bit.
+/// Takes a half-bit that ends an outcome, and returns 1. This function is separate from the code
+/// that runs for each half-bit.
 #[inline(never)]
 fn push_apart(framer: &mut KeptFramer, us: u16, outcome: &mut DccOutcome) -> u8
     requires { (halves : List ℕ) → StandsFor (kept_rest framer.old) halves → seen (halves ++ us ∷ []) ≢ seen halves }
@@ -58,29 +57,10 @@ fn push_apart(framer: &mut KeptFramer, us: u16, outcome: &mut DccOutcome) -> u8
     ensures numbers { result ≢ 0 → outcome.new ≡ outcome_numbers outcome.new.at (outcome_seen outcome.new) }
     ensures bit { result ≤ 1 }
     ensures kept { result ≡ 0 → outcome.new ≡ outcome.old }
+    ensures ends { result ≡ 1 }
 {
     *outcome = outcome_of(1, &framer.push_shown(us));
     1
-}
-
-/// Takes a run of `n` half-bits of `us` microseconds with the framer in `kept`. The function has
-/// the contract of `Framer::push_run`.
-fn push_run(kept: &mut KeptFramer, us: u16, n: u32) -> RunSeen
-    ensures history { (halves : List ℕ) × StandsFor (kept_rest kept.old) halves }
-    ensures stands { (halves : List ℕ) → StandsFor (kept_rest kept.old) halves
-        → StandsFor (kept_rest kept.new) (halves ++ replicate n us) }
-    ensures sees { (halves : List ℕ) → StandsFor (kept_rest kept.old) halves →
-        seen (halves ++ replicate n us) ≡ seen halves ++ report_at (length halves + result.at - 1) result.seen }
-    ensures before { (halves : List ℕ) → StandsFor (kept_rest kept.old) halves →
-        seen (halves ++ replicate (result.at - 1) us) ≡ seen halves }
-    ensures something { result.seen ≢ Seen.Nothing → (1 ≤ result.at) × (result.at ≤ n) }
-    ensures hunts { result.seen ≢ Seen.Nothing → kept_rest kept.new
-        ≡ rest_after_run (Hunting (ones_left result.seen)) (class_of us) (n - result.at) }
-{
-    let mut framer = kept.framer();
-    let answer = framer.push_run(us, n);
-    *kept = framer.keep();
-    answer
 }
 
 /// Takes `n` half-bits of `us` microseconds, as `n` calls of `dcc_push` do. At most one of these
@@ -111,10 +91,20 @@ pub extern "C" fn dcc_push_run(
     ensures bit { result ≤ 1 }
     ensures kept { result ≡ 0 → outcome.new ≡ outcome.old }
 {
-    let answer = push_run(framer, us, n);
-    if answer.seen.is_nothing() {
-        return 0;
+    // `history` holds even if `n` is 0. The contract of this call gives a list of half-bits.
+    let _history = { *framer }.pass(us);
+    let mut ended = 0;
+    let mut at = 0;
+    'run: while at < n {
+        if framer.stays(us) {
+            return ended;
+        }
+        at += 1;
+        if framer.pass(us) {
+            continue 'run;
+        }
+        ended = push_apart(framer, us, outcome);
+        outcome.at = at;
     }
-    *outcome = outcome_of(answer.at, &answer.seen);
-    1
+    ended
 }

@@ -8,7 +8,7 @@ ghost use Rattle.dcc_c.specs.KeptPackets.{kept_bytes, KeptBy, KeptBy-prop};
 
 use crate::frame::DccFrame;
 use dcc_packet::{Packet, read_loco};
-use dcc_station::{displaces, displaces_loco};
+use dcc_station::{displaces_by_registers, displaces_loco};
 use dcc_wire::Frame;
 use std::marker::Model;
 
@@ -80,7 +80,7 @@ impl KeptPacket {
     fn is_displaced_as_read(&self, command: &Packet) -> bool
         ensures { IsTrue result ↔ Displaces command.now self.now }
     {
-        displaces(command, &self.packet())
+        displaces_by_registers(command, &self.packet())
     }
 }
 
@@ -90,7 +90,7 @@ fn kept_frame(packet: &Packet) -> DccFrame
     ensures valid { (kept_bytes packet.now ≡ []) ⊎ IsFrame (kept_bytes packet.now) }
 {
     match packet {
-        Packet::Idle => DccFrame::of(&[]),
-        _ => DccFrame::of(packet.frame().bytes()),
+        Packet::Idle => DccFrame::none(),
+        _ => DccFrame::of_frame(&packet.frame()),
     }
 }

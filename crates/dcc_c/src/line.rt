@@ -10,8 +10,10 @@ ghost use Rattle.dcc_packet.specs.Written.{written_line};
 ghost use Rattle.dcc_c.specs.Frames.{frame_answer, frame_numbers, zeros_behind};
 ghost use Rattle.dcc_c.specs.Lines.{line_answer};
 
-use crate::frame::{DccFrame, frame_of};
+use crate::frame::DccFrame;
 use dcc_packet::Packet;
+use dcc_packet::field::Line;
+use dcc_wire::Frame;
 
 /// Writes the packet line of the frame `frame` to `line`, followed by zeros. The line has at most
 /// 40 bytes, so a zero ends the line. Returns 0 on success, and 1 (L1) or 2 (L2) if `frame` is no
@@ -23,23 +25,32 @@ pub extern "C" fn dcc_line(frame: &[u8], line: &mut [u8; 41]) -> u8
         → (packet : Packet) × (spelling packet ≡ frame.now) × (line.new ≡ zeros_behind 41 (written_line packet)) }
     ensures kept { result ≢ 0 → line.new ≡ line.old }
 {
-    match frame_of(frame) {
+    // takes less code than with `frame_of`
+    match Frame::of(frame) {
         Ok(frame) => {
             put_line(&Packet::read(&frame), line);
             0
         }
-        Err(number) => number,
+        Err(refusal) => refusal.number(),
     }
 }
 
+/// Writes the packet line of a packet to `line`, followed by zeros.
 fn put_line(packet: &Packet, line: &mut [u8; 41])
     ensures { line.new ≡ zeros_behind 41 (written_line packet.now) }
 {
-    let text = packet.to_line();
+    let text = line_of(packet);
     let bytes = text.as_str().as_bytes();
-    let mut padded = [0; 41];
-    padded[..bytes.len()].copy_from_slice(bytes);
-    *line = padded;
+    *line = [0; 41];
+    line[..bytes.len()].copy_from_slice(bytes);
+}
+
+/// Returns the packet line of a packet. This function is not inlined, so `dcc_line` takes less stack.
+#[inline(never)]
+fn line_of(packet: &Packet) -> Line
+    ensures { result.bytes ≡ written_line packet.now }
+{
+    packet.to_line()
 }
 
 /// Writes the frame of the packet line `line`. Returns 0 on success, otherwise the number of the
@@ -52,7 +63,7 @@ pub extern "C" fn dcc_frame_of_line(line: &[u8], frame: &mut DccFrame) -> u8
 {
     match Packet::from_line_bytes(line) {
         Ok(packet) => {
-            *frame = DccFrame::of(packet.frame().bytes());
+            *frame = DccFrame::of_frame(&packet.frame());
             0
         }
         Err(fault) => fault.number(),

@@ -46,7 +46,7 @@ pub extern "C" fn dcc_loco_power_up(loco: &mut DccLoco)
     ensures cvs { loco.new.cvs ≡ loco.old.cvs }
 {
     let registers = LocoRegisters::new(&loco.cvs);
-    put(&mut loco.registers, &registers, DccFrame::of(&[]));
+    put(&mut loco.registers, &registers, DccFrame::none());
 }
 
 /// Applies the packet of the frame `frame`. The decoder ignores a packet that it does not hear.
@@ -193,7 +193,7 @@ fn hear(loco: &mut DccLoco, frame: &[u8])
         Some((to, what)) => obey(loco, frame, &Packet::Loco { to, what }),
         None => {
             each_frame_is_a_packet(frame);
-            loco.registers.pending = DccFrame::of(&[]);
+            loco.registers.pending = DccFrame::none();
         }
     }
 }
@@ -222,8 +222,8 @@ fn leave_pending(pending: &mut DccFrame, frame: &[u8], packet: &Packet)
     ensures byte { is_byte_write packet.now ≡ true }
 {
     if is_own_write(packet) {
-        *pending = DccFrame::of_frame(frame);
+        *pending = DccFrame::of(frame);
     } else {
-        *pending = DccFrame::of(&[]);
+        *pending = DccFrame::none();
     }
 }

@@ -128,8 +128,8 @@ pub(crate) fn pending_left(pending: &Option<Packet>, frame: &Frame) -> DccFrame
     ensures { result ≡ pending_numbers pending.now }
 {
     match pending {
-        None => DccFrame::of(&[]),
-        Some(_) => DccFrame::of(frame.bytes()),
+        None => DccFrame::none(),
+        Some(_) => DccFrame::of_frame(frame),
     }
 }
 
@@ -268,12 +268,12 @@ fn read_pending(numbers: &DccFrame, pending: &mut Option<Packet>) -> bool
 {
     if numbers.len == 0 {
         *pending = None;
-        return numbers.is(&DccFrame::of(&[]));
+        return numbers.is_none();
     }
     match Frame::of(numbers.as_slice()) {
         Ok(frame) => {
             *pending = Some(Packet::read(&frame));
-            numbers.is(&DccFrame::of(frame.bytes()))
+            numbers.is(&DccFrame::of_frame(&frame))
         }
         Err(_) => false,
     }
@@ -370,7 +370,7 @@ fn is_write_for(own: &Option<Address>, pending: &DccFrame) -> bool
     match Frame::check(bytes) {
         Ok(()) => {
             each_frame_is_a_packet(bytes);
-            loco_hears_frame(own, bytes) & is_write(bytes) & pending.is(&DccFrame::of_frame(bytes))
+            loco_hears_frame(own, bytes) & is_write(bytes) & pending.is(&DccFrame::of(bytes))
         }
         Err(_) => false,
     }

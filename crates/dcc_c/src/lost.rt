@@ -1,7 +1,7 @@
 //! Functions on finders of lost packets, in memory that the caller owns.
 
 ghost use Rattle.std.specs.Prelude.{◌≡◌, ◌≢◌, ◌≤◌, ◌+◌, ◌-◌, ◌++◌, ◌∷◌, [], ◌==◌, ℕ, List, None, Some, length};
-ghost use Rattle.std.specs.Prelude.{replicate, if◌then◌else◌};
+ghost use Rattle.std.specs.Prelude.{replicate, take, if◌then◌else◌};
 ghost use Rattle.dcc_lost.specs.declared.causes.LostPacket.{LostPacket as Lost};
 ghost use Rattle.dcc_lost.specs.Causes.{packet_at_end, packet_lost, packets_lost};
 ghost use Rattle.dcc_lost.specs.Reads.{Follows};
@@ -90,4 +90,45 @@ pub extern "C" fn dcc_lost_push_run(
             at
         }
     }
+}
+
+/// Takes half-bits of an array, as calls of `dcc_lost_push` do, up to the first half-bit at which a
+/// packet is lost. The function writes to `taken` how many half-bits it took.
+///
+/// If a packet is lost, the function writes the packet with its causes and returns 1. If no packet
+/// is lost, the function takes all half-bits and returns 0.
+#[unsafe(no_mangle)]
+pub extern "C" fn dcc_lost_push_many(
+    finder: &mut LostFinder,
+    halves: &[u16],
+    packet: &mut DccLostPacket,
+    taken: &mut u64,
+) -> u8
+    ensures history { ∥ ((track : List ℕ) × Follows finder.old track) ∥₁ }
+    ensures reads { (track : List ℕ) → Follows finder.old track
+        → Follows finder.new (track ++ take taken.new halves.now) }
+    ensures none { (track : List ℕ) → Follows finder.old track → result ≡ 0
+        → packets_lost (track ++ take taken.new halves.now) ≡ packets_lost track }
+    ensures some { (track : List ℕ) → Follows finder.old track → result ≢ 0 → (lost : Lost)
+        × (packets_lost (track ++ take taken.new halves.now)
+        ≡ packets_lost track ++ (length track + taken.new - 1, lost) ∷ [])
+        × (packet.new ≡ lost_numbers lost) }
+    ensures within { taken.new ≤ length halves.now }
+    ensures something { result ≢ 0 → 1 ≤ taken.new }
+    ensures nothing { result ≡ 0 → taken.new ≡ length halves.now }
+    ensures bit { result ≤ 1 }
+    ensures kept { result ≡ 0 → packet.new ≡ packet.old }
+{
+    let mut at = 0;
+    'halves: while at < halves.len() {
+        let lost = finder.push(halves[at]);
+        at += 1;
+        if let Some(lost) = lost {
+            *packet = lost_numbers(&lost);
+            *taken = at as u64;
+            return 1;
+        }
+    }
+    *taken = at as u64;
+    0
 }

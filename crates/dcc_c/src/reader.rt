@@ -60,7 +60,7 @@ pub extern "C" fn dcc_reader_question(reader: &DccReader, question: &mut DccFram
 {
     match taken_up(reader) {
         Some(reader) => {
-            *question = DccFrame::of(reader.question().frame().bytes());
+            *question = DccFrame::of_three(reader.question().bytes());
             0
         }
         None => PacketFault::State.number(),

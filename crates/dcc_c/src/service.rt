@@ -7,7 +7,7 @@ ghost use Rattle.dcc_service.specs.Progress.{state_with_cvs};
 ghost use Rattle.dcc_c.specs.Frames.{frame_answer};
 ghost use Rattle.dcc_c.specs.Services.{pending_bytes, service_numbers, small_service_numbers};
 
-use crate::frame::{DccFrame, frame_of};
+use crate::frame::DccFrame;
 use dcc_packet::PacketFault;
 use dcc_service::{ServicePacket, ServiceProgress};
 use dcc_wire::Frame;
@@ -51,7 +51,7 @@ pub extern "C" fn dcc_service_power_up(service: &mut DccService)
         (record { in_service = false; pending = None; cvs = service.old.cvs }) }
     ensures cvs { service.new.cvs ≡ service.old.cvs }
 {
-    put(&mut service.progress, &ServiceProgress::new());
+    leave(&mut service.progress);
 }
 
 /// Applies the frame `frame`. The function writes true to `acknowledged` if the decoder
@@ -73,7 +73,7 @@ pub extern "C" fn dcc_service_apply(
     ensures kept { result ≢ 0 → service.new ≡ service.old }
     ensures untold { result ≢ 0 → acknowledged.new ≡ acknowledged.old }
 {
-    match frame_of(frame) {
+    match Frame::of(frame) {
         Ok(frame) => match progress_of(&service.progress) {
             Some(mut progress) => {
                 *acknowledged = progress.apply(&mut service.cvs, &frame);
@@ -82,8 +82,17 @@ pub extern "C" fn dcc_service_apply(
             }
             None => PacketFault::State.number(),
         },
-        Err(number) => number,
+        Err(fault) => fault.number(),
     }
+}
+
+/// Takes a decoder out of service mode. Then no packet is pending.
+pub(crate) fn leave(service: &mut DccSmallService)
+    ensures { (cvs : List ℕ) → service.new ≡ small_service_numbers
+        (record { in_service = false; pending = None; cvs = cvs }) }
+{
+    service.in_service = false;
+    service.pending = DccFrame::none();
 }
 
 /// Writes the state of a decoder without its CVs to the fields of `service`.
@@ -98,8 +107,8 @@ fn pending_bytes(pending: &Option<ServicePacket>) -> DccFrame
     ensures { result ≡ pending_bytes pending.now }
 {
     match pending {
-        None => DccFrame::of(&[]),
-        Some(packet) => DccFrame::of(packet.frame().bytes()),
+        None => DccFrame::none(),
+        Some(packet) => DccFrame::of_three(packet.bytes()),
     }
 }
 
@@ -111,23 +120,31 @@ pub(crate) fn progress_of(service: &DccSmallService) -> Option<ServiceProgress>
     ensures numbers { IfSome result (λ progress. (cvs : List ℕ) → service.now ≡ small_service_numbers
         (state_with_cvs progress cvs)) }
 {
-    let pending = pending_of(&service.pending)?;
-    if service.pending.is(&pending_bytes(&pending)) {
-        Some(ServiceProgress {
-            in_service: service.in_service,
-            pending,
-        })
-    } else {
-        None
-    }
+    Some(ServiceProgress {
+        in_service: service.in_service,
+        pending: pending_of(&service.pending)?,
+    })
 }
 
+/// Returns the pending packet with the frame `pending`. Returns `None` if `pending` is not the
+/// struct of such a frame and not the struct without bytes.
 fn pending_of(pending: &DccFrame) -> Option<Option<ServicePacket>>
-    ensures { (packet : Option ServicePacket) → pending.now ≡ pending_bytes packet → result ≡ Some packet }
+    ensures found { (packet : Option ServicePacket) → pending.now ≡ pending_bytes packet → result ≡ Some packet }
+    ensures numbers { IfSome result (λ packet. pending.now ≡ pending_bytes packet) }
 {
-    if pending.len == 0 {
+    if pending.is_none() {
         return Some(None);
     }
-    let frame = Frame::of(pending.as_slice()).ok()?;
-    Some(Some(ServicePacket::read(&frame)?))
+    match Frame::of(pending.as_slice()) {
+        Ok(frame) => {
+            if !pending.is(&DccFrame::of_frame(&frame)) {
+                return None;
+            }
+            match ServicePacket::read(&frame) {
+                Some(packet) => Some(Some(packet)),
+                None => None,
+            }
+        }
+        Err(_) => None,
+    }
 }

@@ -41,7 +41,7 @@ pub extern "C" fn dcc_service_frame(packet: &DccServicePacket, frame: &mut DccFr
 {
     match packet_of(packet) {
         Ok(what) => {
-            *frame = DccFrame::of(what.frame().bytes());
+            *frame = DccFrame::of_three(what.bytes());
             0
         }
         Err(fault) => fault.number(),
@@ -113,8 +113,9 @@ fn bit_access(fields: &DccServicePacket) -> Result<ServicePacket, PacketFault>
 }
 
 /// Returns the bit of a CV with the numbers `cv` and `place`, or the first error.
-fn bit_of_cv(cv: u16, place: u8) -> Result<(CvNumber, BitPlace), PacketFault>
-    ensures { result ≡ bit_of_cv cv place }
+pub(crate) fn bit_of_cv(cv: u16, place: u8) -> Result<(CvNumber, BitPlace), PacketFault>
+    ensures exact { result ≡ bit_of_cv cv place }
+    ensures numbers { IfOk result (λ bit. (bit.0.number ≡ cv) × (bit.1.place ≡ place)) }
 {
     match CvNumber::new(cv) {
         Ok(cv) => match BitPlace::new(place) {

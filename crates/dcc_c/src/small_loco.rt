@@ -46,7 +46,7 @@ pub extern "C" fn dcc_small_loco_new(loco: &mut DccSmallLoco, cv1: u8, cv17: u8,
         × (loco_who state ≡ start_who (cv_in cvs)) × (loco_map state ≡ start_map (cv_in cvs)) }
 {
     let registers = LocoRegisters::powered_up(cv1, cv17, cv18, cv29);
-    put(&mut loco.registers, &registers, DccFrame::of(&[]));
+    put(&mut loco.registers, &registers, DccFrame::none());
     loco.cv29 = cv29;
 }
 

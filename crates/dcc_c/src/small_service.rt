@@ -10,10 +10,9 @@ ghost use Rattle.dcc_c.specs.Services.{small_service_numbers};
 ghost use Rattle.dcc_c.specs.SmallLocos.{cv_or_0};
 
 use crate::frame::frame_of;
-use crate::service::{DccSmallService, progress_of, put};
+use crate::service::{DccSmallService, leave, progress_of, put};
 use crate::small_loco::number_of;
 use dcc_packet::PacketFault;
-use dcc_service::ServiceProgress;
 
 /// Initialises a decoder that is not in service mode.
 #[unsafe(no_mangle)]
@@ -21,7 +20,7 @@ pub extern "C" fn dcc_small_service_new(service: &mut DccSmallService)
     ensures { (cvs : List ℕ) → service.new ≡ small_service_numbers
         (record { in_service = false; pending = None; cvs = cvs }) }
 {
-    put(service, &ServiceProgress::new());
+    leave(service);
 }
 
 /// Writes to `cv` the number of the CV that `dcc_small_service_apply` accesses for the frame

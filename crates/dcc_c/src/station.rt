@@ -1,19 +1,22 @@
 //! Functions on command stations, in memory that the caller owns.
 
-ghost use Rattle.std.specs.Prelude.{◌≡◌, ◌≢◌, ◌≤◌, ◌<◌, ◌∷◌, ◌++◌, [], List, length, true, false, ◌↔◌};
+ghost use Rattle.std.specs.Prelude.{◌≡◌, ◌≢◌, ◌≤◌, ◌<◌, ◌∷◌, ◌++◌, [], List, length, filter, true, false, ◌↔◌};
 ghost use Rattle.dcc_packet.specs.declared.packet.Packet.{Packet};
 ghost use Rattle.dcc_packet.specs.Spelling.{spelling};
+ghost use Rattle.dcc_regs.specs.Safety.{can_move};
 ghost use Rattle.dcc_station.specs.Commands as commands;
 ghost use Rattle.dcc_station.specs.Limits.{is_within_limits};
 ghost use Rattle.dcc_station.specs.Refresh.{StationRepresents};
-ghost use Rattle.dcc_station.specs.Sending.{Next, idle_sending, with_command};
+ghost use Rattle.dcc_station.specs.Sending.{Next, idle_sending, outgoing, with_command};
+ghost use Rattle.dcc_station.specs.Sending.{stopped, stop_packet, not_withdrawn};
+ghost use Rattle.dcc_station.specs.Stops.{StationObeys, partly_sent};
 ghost use Rattle.dcc_c.specs.Frames.{frame_answer, frame_numbers};
 ghost use Rattle.dcc_c.specs.Stations.{sending_of, FrameSpells};
 
 use crate::frame::{DccFrame, frame_of};
 use crate::station_numbers::DccStation;
 use dcc_packet::Packet;
-use dcc_station::{PacketRing, StationFault, are_within_limits, hand_out, take_command};
+use dcc_station::{PacketRing, StationFault, are_within_limits, hand_out, stop_all, take_command};
 
 /// Initialises a station with an empty queue and without entries. The parameter `queue` is the
 /// capacity of the queue, 1 to 64. The parameter `slots` is the capacity of the entries, 1 to 128.
@@ -56,6 +59,7 @@ fn set_sizes(station: &mut DccStation, queue: u8, slots: u8, repeats: u8)
 {
     station.commands.clear(queue);
     station.entries.clear(slots);
+    station.stopping = false;
     station.sent = 0;
     station.repeats = repeats;
 }
@@ -81,6 +85,9 @@ pub extern "C" fn dcc_station_command(station: &mut DccStation, frame: &[u8]) ->
     ensures stands { result ≡ 0 → (packet : Packet) × FrameSpells frame.now packet
         × ((commands packets : List Packet) → StationRepresents (sending_of station.old) commands packets
         → StationRepresents (sending_of station.new) (commands ++ packet ∷ []) packets) }
+    ensures obeys { result ≡ 0 → (packet : Packet) × FrameSpells frame.now packet
+        × ((commands packets : List Packet) → StationObeys (sending_of station.old) commands packets
+        → StationObeys (sending_of station.new) (commands ++ packet ∷ []) packets) }
     ensures kept { result ≢ 0 → station.new ≡ station.old }
 {
     match frame_of(frame) {
@@ -107,9 +114,10 @@ fn accept(station: &mut DccStation, packet: Packet) -> u8
     }
 }
 
-/// Writes the frame of the next packet, as `Station::next` does. The packet is a copy of the first
-/// command of the queue. If the queue is empty, the packet is the first entry, which moves to the
-/// end. If there is no entry, the packet is an idle packet.
+/// Writes the frame of the next packet, as `Station::next` does. The packet is a copy of the stop
+/// if a stop waits, otherwise a copy of the first command of the queue. If no stop waits and the
+/// queue is empty, the packet is the first entry, which moves to the end. If there is no entry
+/// either, the packet is an idle packet.
 #[unsafe(no_mangle)]
 pub extern "C" fn dcc_station_next(station: &mut DccStation, frame: &mut DccFrame)
     ensures next { (packet : Packet) × (frame.new ≡ frame_numbers (spelling packet))
@@ -117,8 +125,12 @@ pub extern "C" fn dcc_station_next(station: &mut DccStation, frame: &mut DccFram
     ensures stands { (packet : Packet) × (frame.new ≡ frame_numbers (spelling packet))
         × ((commands packets : List Packet) → StationRepresents (sending_of station.old) commands packets
         → StationRepresents (sending_of station.new) commands (packets ++ packet ∷ [])) }
+    ensures obeys { (packet : Packet) × (frame.new ≡ frame_numbers (spelling packet))
+        × ((commands packets : List Packet) → StationObeys (sending_of station.old) commands packets
+        → StationObeys (sending_of station.new) commands (packets ++ packet ∷ [])) }
 {
-    let packet = next(station);
+    let mut packet = Packet::Idle;
+    next(station, &mut packet);
     put_frame(&packet, frame);
 }
 
@@ -128,22 +140,43 @@ pub extern "C" fn dcc_station_next(station: &mut DccStation, frame: &mut DccFram
 fn put_frame(packet: &Packet, frame: &mut DccFrame)
     ensures { frame.new ≡ frame_numbers (spelling packet.now) }
 {
-    *frame = DccFrame::of(packet.frame().bytes());
+    *frame = DccFrame::of_frame(&packet.frame());
 }
 
-fn next(station: &mut DccStation) -> Packet
-    ensures { Next (sending_of station.old) result (sending_of station.new) }
+/// Writes the next packet of the station to `packet`.
+fn next(station: &mut DccStation, packet: &mut Packet)
+    ensures { Next (sending_of station.old) packet.new (sending_of station.new) }
 {
     let repeats = station.repeats;
     hand_out(
         &mut station.commands,
+        &mut station.stopping,
         &mut station.sent,
         &mut station.entries,
         repeats,
-    )
+        packet,
+    );
 }
 
-/// Returns the number of commands in the queue.
+/// Stops all locomotives, as `Station::stop` does. The next packets of the station are the copies
+/// of the emergency stop of all locomotives. The function removes the commands that set the speed
+/// of a locomotive to a step, and returns their number. All other commands wait until the stop is
+/// sent. If one of them was partly sent, all its copies are sent again. The stop takes no place in
+/// the queue.
+#[unsafe(no_mangle)]
+pub extern "C" fn dcc_station_stop(station: &mut DccStation) -> u8
+    ensures stops { sending_of station.new ≡ stopped (sending_of station.old) }
+    ensures withdrawn { result ≡ length (filter can_move (sending_of station.old).waiting) }
+    ensures obeys { (done packets : List Packet)
+        → StationObeys (sending_of station.old) (done ++ outgoing (sending_of station.old)) packets
+        → StationObeys (sending_of station.new) (done ++ filter can_move (partly_sent (sending_of station.old))
+        ++ stop_packet ∷ not_withdrawn (sending_of station.old).waiting) packets }
+{
+    let (stopping, sent) = (&mut station.stopping, &mut station.sent);
+    stop_all(&mut station.commands, stopping, sent) as u8
+}
+
+/// Returns the number of commands in the queue. A stop that waits does not count.
 #[unsafe(no_mangle)]
 pub extern "C" fn dcc_station_waiting(station: &DccStation) -> u8
     ensures { result ≡ length (sending_of station.now).waiting }

@@ -11,6 +11,7 @@ use crate::station_ring::DccRing;
 pub struct DccStation {
     pub(crate) commands: DccRing,
     pub(crate) entries: DccRing,
+    pub(crate) stopping: bool,
     pub(crate) sent: u8,
     pub(crate) repeats: u8,
     ghost few: { (repeats ≤ 8) × (sent ≤ 8) },

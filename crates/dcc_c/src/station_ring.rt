@@ -24,12 +24,12 @@ impl DccRing {
     ghost use Rattle.circular_buffer.specs.Buffer.{buffer};
     ghost use Rattle.dcc_c.specs.Stations.{ring_of};
 
-    /// Removes all packets and sets the capacity of the ring.
+    /// Removes all packets and sets the capacity of the ring. The place of the first packet does not
+    /// matter in an empty ring.
     pub fn clear(&mut self, capacity: u8)
         requires { capacity ≤ 128 }
         ensures { ring_of self.new ≡ buffer [] capacity }
     {
-        self.start = 0;
         self.len = 0;
         self.capacity = capacity;
     }
@@ -74,10 +74,11 @@ impl PacketRing for DccRing {
         Some(self.packets[usize::from(self.start)].packet())
     }
 
-    fn pop_front(&mut self) -> Option<Packet> {
-        let front = self.front()?;
+    fn pop_front(&mut self) {
+        if self.len == 0 {
+            return;
+        }
         self.remove_front();
-        Some(front)
     }
 
     fn push_back(&mut self, packet: Packet) {

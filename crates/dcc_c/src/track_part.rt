@@ -5,7 +5,7 @@ ghost use Rattle.dcc_service.specs.declared.progress.ServiceProgress.{ServicePro
 ghost use Rattle.dcc_service.specs.Progress.{state_with_cvs};
 ghost use Rattle.dcc_c.specs.Services.{small_service_numbers};
 
-use crate::service::{DccSmallService, progress_of, put};
+use crate::service::{DccSmallService, leave, progress_of, put};
 use crate::track_answer::{DccAnswer, answer_numbers};
 use dcc_service::ServiceProgress;
 use dcc_track::{Programmable, end_service_in_parts, hear_in_parts};
@@ -37,7 +37,7 @@ impl TrackPart {
     pub(crate) fn clear(&mut self)
         ensures { (decoder : DecoderState) → IsPart self.new (new_track decoder false) }
     {
-        self.put(&ServiceProgress::new());
+        leave(&mut self.service);
         self.changed = false;
         self.main_only = false;
     }

@@ -58,7 +58,7 @@ pub extern "C" fn dcc_writer_question(writer: &DccWriter, question: &mut DccFram
 {
     match taken_up(writer) {
         Some(writer) => {
-            *question = DccFrame::of(writer.question().frame().bytes());
+            *question = DccFrame::of_three(writer.question().bytes());
             0
         }
         None => PacketFault::State.number(),

@@ -143,6 +143,13 @@ begins_with bytes front is =
       ends = is.ends_line;
     }
 
+-- if `bytes` have a line feed at the place `at`, the bytes from there on begin with a line feed
+pub line_feed_behind : (bytes : List ℕ) (at : ℕ) → HasLineFeedAt bytes at → HasLineFeedAt (drop at bytes) 0
+line_feed_behind bytes at is =
+    let inside = is.0 in
+    let here : at + 0 ≡ at = omega arith in
+    (omega (arith, length-drop at bytes), get_or-drop at bytes 0 0 ∙ ap (λ k. get_or bytes k 0) here ∙ is.1)
+
 -- what an input with these fields is
 abbrev pub state_of : ReaderState → ℕ → ℕ → Bool → Bool → ℕ → ℕ → Option KeptFault → InputState
 state_of source line lines in_comment closed halves bytes fault = record {

@@ -19,7 +19,7 @@ use crate::stream::Source;
 use crate::text_line::{TextLine, front_line, skipped_line_len};
 use crate::word::{
     FrontWord, Run, RunWord, begins_with_line_feed, begins_with_run, front_word, is_gap,
-    len_of_line, short_front_word, whole_word,
+    len_of_line, short_front_word, short_word_before_cr_lf, whole_word,
 };
 use dcc_packet::PacketFault;
 use std::alloc::Global;
@@ -366,6 +366,30 @@ impl<R: Source> Input<R> {
         Some(front.us)
     }
 
+    /// Removes the word at the beginning of the buffer, and the CR LF after this word. Returns the
+    /// duration of the word. Returns `None` if the limit of bytes is exceeded.
+    #[inline(always)]
+    fn take_front_and_cr_lf(&mut self, front: FrontWord) -> Option<u16>
+        requires fault { self.old.fault ≡ None }
+        requires no_comment { self.old.place.in_comment ≡ false }
+        requires left { 0 < self.old.halves }
+        requires front { IsFrontWord self.old.ahead front }
+        requires ends_line { front.ends_line ≡ false }
+        requires line_feed { HasLineFeedAt self.old.ahead (front.len + 1) }
+        ensures some { IfSome result (λ us. TakesHalf self.old us self.new) }
+        ensures none { IfNone result (self.new ≡ self.old) }
+    {
+        // the word and two bytes after the word
+        if self.bytes_left as usize <= front.len + 2 {
+            return None;
+        }
+        self.pass_word(front.len, front.ends_line);
+        self.pass_line_feed();
+        let left = self.halves_left - 1;
+        self.halves_left = left;
+        Some(front.us)
+    }
+
     /// Returns all bytes that are left, without the line feed that the input appends.
     pub(crate) fn read_all(&mut self, alloc: Global) -> Result<Vec<u8>, ToolFault>
         requires { self.old.fault ≡ None }
@@ -499,8 +523,11 @@ pub fn take_buffered_half<R: Source>(input: &mut Input<R>) -> Option<u16>
     }
     match short_front_word(input.source.ahead()) {
         Some(front) => input.take_front(front, false),
-        None if begins_with_run(input.source.ahead()) => None,
-        None => input.take_any_buffered_half(),
+        None => match short_word_before_cr_lf(input.source.ahead()) {
+            Some(front) => input.take_front_and_cr_lf(front),
+            None if begins_with_run(input.source.ahead()) => None,
+            None => input.take_any_buffered_half(),
+        },
     }
 }
 

@@ -1,6 +1,6 @@
 //! The types of words of a capture, and functions that find words in bytes.
 ghost use Rattle.std.specs.Prelude.{◌≡◌, ◌↔◌, ◌<◌, ◌≤◌, min, ℕ, List, [], ◌∷◌, ◌++◌, not, true, ◌==◌, ◌&&◌, IfSome};
-ghost use Rattle.std.specs.Prelude.{IsTrue, ◌||◌, length, nat_lt, slice_index};
+ghost use Rattle.std.specs.Prelude.{IsTrue, false, ◌+◌, ◌||◌, length, nat_lt, slice_index};
 ghost use Rattle.dcc_io.specs.Words.{is_gap, is_mark, is_some_byte, run_of};
 ghost use Rattle.dcc_io.specs.Inner.FrontWords.{EndNoLine, HasLineFeedAt, IsFrontWord, IsWholeWord, EndedWord};
 
@@ -144,6 +144,35 @@ pub fn short_front_word(bytes: &[u8]) -> Option<FrontWord>
     None
 }
 
+/// Returns the word at the beginning of `bytes`, if it consists of two or three digits and CR LF
+/// follows it. Returns `None` for other bytes.
+#[inline(always)]
+pub fn short_word_before_cr_lf(bytes: &[u8]) -> Option<FrontWord>
+    ensures word { IfSome result (λ front. IsFrontWord bytes.now front) }
+    ensures ends_line { IfSome result (λ front. front.ends_line ≡ false) }
+    ensures line_feed { IfSome result (λ front. HasLineFeedAt bytes.now (front.len + 1)) }
+{
+    if bytes.len() < 4 || !is_digit(bytes[0]) || !is_digit(bytes[1]) {
+        return None;
+    }
+    if is_cr(bytes[2]) && bytes[3] == b'\n' {
+        return Some(FrontWord {
+            us: u16::from(bytes[0] - b'0') * 10 + u16::from(bytes[1] - b'0'),
+            len: 2,
+            ends_line: false,
+        });
+    }
+    if is_digit(bytes[2]) && is_cr(bytes[3]) && bytes.len() > 4 && bytes[4] == b'\n' {
+        let tens = u16::from(bytes[0] - b'0') * 10 + u16::from(bytes[1] - b'0');
+        return Some(FrontWord {
+            us: tens * 10 + u16::from(bytes[2] - b'0'),
+            len: 3,
+            ends_line: false,
+        });
+    }
+    None
+}
+
 /// Returns true if a byte is a decimal digit.
 #[inline(always)]
 pub fn is_digit(byte: u8) -> bool
@@ -159,6 +188,16 @@ fn ends_most_words(byte: u8) -> bool
     ensures { IsTrue result → is_gap byte ≡ true }
 {
     byte == b' ' || byte == b'\n'
+}
+
+/// Returns true if a byte is CR.
+#[inline(always)]
+#[tactic(auto, unfolding(crate::specs::Words::is_gap))]
+fn is_cr(byte: u8) -> bool
+    ensures gap { IsTrue result → is_gap byte ≡ true }
+    ensures no_line_feed { IsTrue result → (byte == 10) ≡ false }
+{
+    byte == b'\r'
 }
 
 /// Returns the word at the beginning of `bytes`, if the word is a duration and a gap ends it.

@@ -49,6 +49,7 @@ pub fn lost<R: Source, W: Sink>(
 }
 
 /// Writes the lines of the lost packets of a capture, up to the first error.
+#[inline(never)]
 fn list<R: Source, W: Sink>(
     input: &mut Input<R>,
     writer: &mut W,

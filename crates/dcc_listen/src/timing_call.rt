@@ -18,6 +18,7 @@ use dcc_lost::TrackFigures;
 /// Errors: U2 at a word that is no run. U4 if a read fails. U7 if the input exceeds a limit. U5 if
 /// a write fails. After U2, U4 or U7 nothing was written, and `input` stores the error. After U5 a
 /// prefix of the text was written.
+#[inline(never)]
 pub fn timing<R: Source, W: Sink>(input: &mut Input<R>, writer: &mut W) -> Result<(), ToolFault>
     // If an error is stored, the function returns this error, and reads and writes nothing.
     ensures kept { IfSome input.old.fault
@@ -38,6 +39,7 @@ pub fn timing<R: Source, W: Sink>(input: &mut Input<R>, writer: &mut W) -> Resul
 
 /// Reads a capture to its end, and returns all its statistics. Most words are durations that the
 /// buffer contains completely.
+#[inline(never)]
 pub fn measure<R: Source>(input: &mut Input<R>) -> Result<TrackFigures, KeptFault>
     requires { input.old.fault ≡ None }
     ensures { MeasuresCapture input.old result input.new }

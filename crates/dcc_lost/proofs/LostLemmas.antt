@@ -1,5 +1,5 @@
 -- What a finder answers.
-use Rattle.std.proofs.Common.{◌≡◌, ◌≢◌, ℕ, ◌+◌, ◌*◌, ◌≤◌, List, [], ◌∷◌, ◌++◌, length, None, refl, ap, ◌∙◌, arith}
+use Rattle.std.proofs.Common.{◌≡◌, ◌≢◌, ℕ, ◌+◌, ◌*◌, ◌≤◌, List, [], ◌∷◌, ◌++◌, length, None, refl, ap, sym, ◌∙◌, arith}
 use Rattle.std.proofs.Common.{append-nil, if◌then◌else◌, length-append}
 use Rattle.std.proofs.lemmas.Bool.Decides.{nat_tests}
 use Rattle.dcc_wire.specs.declared.seen.Seen.{Seen}
@@ -72,3 +72,8 @@ pub nothing_seen : (durations : List ℕ) (us : ℕ) (answer : Seen)
     → seen (durations ++ us ∷ []) ≡ seen durations
 unfolding report_at
 nothing_seen durations us answer sees nothing = sees ∙ rw nothing (append-nil (seen durations))
+
+pub shows_nothing : (durations : List ℕ) (us : ℕ) → seen (durations ++ us ∷ []) ≡ seen durations
+    → seen (durations ++ us ∷ []) ≡ seen durations ++ report_at (length durations) Nothing
+unfolding report_at
+shows_nothing durations us same = same ∙ sym (append-nil (seen durations))

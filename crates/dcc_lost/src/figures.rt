@@ -108,8 +108,9 @@ impl Ended {
 
 impl TrackFigures {
     ghost use Rattle.std.specs.Prelude.{◌≡◌, ◌<◌, ◌+◌, ◌^◌, ◌++◌, [], ◌∷◌, ℕ, List, min, length, replicate, false};
-    ghost use Rattle.std.specs.Prelude.{◌↔◌, IsTrue};
-    ghost use Rattle.dcc_wire.specs.Framing.{is_hunting, rest};
+    ghost use Rattle.std.specs.Prelude.{◌≢◌, ◌↔◌, IsTrue};
+    ghost use Rattle.dcc_wire.specs.Framing.{StandsFor, is_hunting, rest, seen};
+    ghost use Rattle.dcc_wire.specs.Kept.{kept_rest};
     ghost use Rattle.dcc_timing.specs.Measures.{Measures};
     ghost use Rattle.dcc_timing.specs.Numbers.{keep_last};
     ghost use Rattle.dcc_lost.specs.Figures.{AreStill};
@@ -182,13 +183,37 @@ impl TrackFigures {
             → MeasuresTrack self.new (durations ++ us ∷ []) }
         ensures count { self.new.timings.halves ≡ self.old.timings.halves + 1 }
     {
-        self.preambles.push(self.ones.min(self.unused));
-        let seen = self.timings.push(us);
-        self.ones = ones_next(self.ones, us);
-        self.unused = unused_next(self.unused, &seen, self.timings.is_hunting());
-        if !can_end_packet(&self.timings, us, &seen) {
+        if !self.timings.pass(us) {
+            self.push_shown(us);
             return;
         }
+        self.preambles.push(self.ones.min(self.unused));
+        self.ones = ones_next(self.ones, us);
+        self.unused = unused_next(self.unused, &Seen::Nothing, self.timings.is_hunting());
+        if !can_lose_packet(&self.timings, us) {
+            return;
+        }
+        self.ended
+            .count(&self.timings, &self.preambles, &Seen::Nothing);
+    }
+
+    /// Appends a half-bit of `us` microseconds that has an outcome to the list.
+    #[inline(never)]
+    fn push_shown(&mut self, us: u16)
+        requires room { self.old.timings.halves + 1 < 2 ^ 32 }
+        requires shows { (halves : List ℕ) → StandsFor (kept_rest self.old.timings.framer) halves
+            → seen (halves ++ us ∷ []) ≢ seen halves }
+        ensures history { ∥ ((durations : List ℕ) × MeasuresTrack self.old durations) ∥₁ }
+        ensures measures { (durations : List ℕ) → MeasuresTrack self.old durations
+            → MeasuresTrack self.new (durations ++ us ∷ []) }
+        ensures count { self.new.timings.halves ≡ self.old.timings.halves + 1 }
+    {
+        let preamble = self.ones.min(self.unused);
+        let ones = ones_next(self.ones, us);
+        let seen = self.timings.push_shown(us);
+        self.preambles.push(preamble);
+        self.ones = ones;
+        self.unused = unused_next(self.unused, &seen, self.timings.is_hunting());
         self.ended.count(&self.timings, &self.preambles, &seen);
     }
 
@@ -306,19 +331,15 @@ ghost use Rattle.dcc_lost.specs.Inner.{frame_ended};
 ghost use Rattle.dcc_lost.specs.Lost.{frame_lost};
 ghost use Rattle.dcc_lost.specs.Preambles.{all_unused_at_end, nearest_ones_at_end, preamble_of};
 
-/// Returns false if no packet ends with a half-bit. The half-bit has `us` microseconds and the
-/// outcome `outcome`, and `timings` are the statistics of the half-bits up to it. Most half-bits are no
+/// Returns false if no packet is lost at the last half-bit of a list. This half-bit has `us`
+/// microseconds and no outcome, and `timings` are the statistics of the list. Most half-bits are no
 /// end of a packet.
 #[inline(always)]
-fn can_end_packet(timings: &Timings, us: u16, outcome: &Seen) -> bool
-    ensures nothing { result ≡ false → outcome.now ≡ Seen.Nothing }
-    ensures none { (durations : List ℕ) → Measures timings.now (durations ++ us ∷ [])
-        → seen (durations ++ us ∷ []) ≡ seen durations ++ report_at (length durations) outcome.now
+fn can_lose_packet(timings: &Timings, us: u16) -> bool
+    ensures { (durations : List ℕ) → Measures timings.now (durations ++ us ∷ [])
+        → seen (durations ++ us ∷ []) ≡ seen durations
         → result ≡ false → frame_lost durations us ≡ None }
 {
-    if !outcome.is_nothing() {
-        return true;
-    }
     if !is_nearest_one(us) {
         return false;
     }

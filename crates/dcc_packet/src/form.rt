@@ -16,13 +16,22 @@ pub(crate) fn put_form<F: Field>(line: &mut Line, keyword: &str, fields: &F)
     fields.put(line);
 }
 
+/// Appends a keyword and the words of `fields` to `line`, without a space before the keyword. A form
+/// at the beginning of a line has no such space.
+pub(crate) fn put_first_form<F: Field>(line: &mut Line, keyword: &str, fields: &F)
+    requires { array_string_len line.old + (length keyword.now + F.most) ≤ 40 }
+    ensures { line.new.bytes ≡ line.old.bytes ++ words_in_line (keyword.now ∷ F.field.written fields.now) }
+{
+    line.push_str(keyword);
+    fields.put(line);
+}
+
 /// Returns the line that consists of a keyword and the words of `fields`.
 pub fn form_line<F: Field>(keyword: &str, fields: &F) -> Line
     requires { length keyword.now + F.most ≤ 40 }
     ensures { result.bytes ≡ words_in_line (keyword.now ∷ F.field.written fields.now) }
 {
     let mut line = Line::new();
-    line.push_str(keyword);
-    fields.put(&mut line);
+    put_first_form(&mut line, keyword, fields);
     line
 }

@@ -1,5 +1,6 @@
 //! Functions that return the packet line of a packet.
-ghost use Rattle.std.specs.Prelude.{◌≡◌, Result, Ok};
+ghost use Rattle.std.specs.Prelude.{◌≡◌, ◌++◌, Result, Ok};
+ghost use Rattle.arrayvec.specs.ArrayString.{array_string_len};
 ghost use Rattle.dcc_packet.specs.declared.packet.Packet.{Packet};
 ghost use Rattle.dcc_packet.specs.declared.fault.PacketFault.{PacketFault};
 ghost use Rattle.dcc_packet.specs.Words.{words};
@@ -10,7 +11,7 @@ ghost use Rattle.dcc_packet.specs.Written.{written_line};
 use crate::Packet;
 use crate::field::Line;
 use crate::fields::Switch;
-use crate::form::form_line;
+use crate::form::put_first_form;
 use crate::to_line_word::put_hex;
 use arrayvec::ArrayString;
 
@@ -35,18 +36,32 @@ impl Packet {
         ensures fits { BytesFit self.now }
     {
         self.has_bytes();
+        let mut line = Line::new();
+        self.put_line(&mut line);
+        line
+    }
+
+    /// Appends the packet line to the empty line `line`. All kinds of packets share one line, so the
+    /// stack has one line.
+    fn put_line(&self, line: &mut Line)
+        requires empty { array_string_len line.old ≡ 0 }
+        requires fits { BytesFit self.now }
+        ensures { line.new.bytes ≡ line.old.bytes ++ written_line self.now }
+    {
         match self {
-            Packet::Idle => form_line("idle", &()),
-            Packet::Loco { to, what } => form_line("loco", &(*to, *what)),
+            Packet::Idle => put_first_form(line, "idle", &()),
+            Packet::Loco { to, what } => put_first_form(line, "loco", &(*to, *what)),
             Packet::Accessory { board, output, on } => {
-                form_line("accessory", &(*board, (*output, Switch { on: *on })))
+                put_first_form(line, "accessory", &(*board, (*output, Switch { on: *on })))
             }
-            Packet::Signal { address, aspect } => form_line("signal", &(*address, *aspect)),
+            Packet::Signal { address, aspect } => put_first_form(
+                line,
+                "signal",
+                &(*address, *aspect),
+            ),
             Packet::Other(other) => {
-                let mut line = Line::new();
                 line.push_str("frame ");
-                put_hex(&mut line, other.bytes());
-                line
+                put_hex(line, other.bytes());
             }
         }
     }

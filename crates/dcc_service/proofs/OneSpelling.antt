@@ -1,12 +1,11 @@
 -- No two service packets have one service_spelling.
-use Rattle.std.proofs.Common.{◌≡◌, ℕ, ◌+◌, ◌-◌, ◌*◌, ◌/◌, ◌%◌, ◌≤◌, Bool, sym, arith}
+use Rattle.std.proofs.Common.{◌≡◌, ℕ, ◌+◌, ◌-◌, ◌*◌, ◌/◌, ◌%◌, ◌≤◌, sym, arith}
 use Rattle.dcc_packet.specs.declared.cv.CvNumber.{CvNumber}
-use Rattle.dcc_packet.specs.declared.cv.BitPlace.{BitPlace}
 use Rattle.dcc_packet.specs.Rows.{bit}
 use Rattle.dcc_service.specs.declared.packet.ServicePacket.{ServicePacket}
 use Rattle.dcc_service.specs.declared.packet.ServicePacket.TheVariants.{Write, Verify, BitWrite, BitVerify}
 use Rattle.dcc_service.specs.Table.{access_bytes, service_bytes, service_spelling}
-use Rattle.dcc_packet.proofs.Same.{same_bit, bit_below, same_cv, same_place}
+use Rattle.dcc_packet.proofs.Same.{bit_below, same_cv}
 use Rattle.dcc_packet.proofs.FrameParts.{same_bytes}
 use Rattle.dcc_packet.proofs.OneSpelling.{one_bit}
 

@@ -13,6 +13,7 @@ use Rattle.dcc_service.specs.declared.packet.ServicePacket.TheVariants.{Write, V
 abbrev pub access_bytes : ℕ → CvNumber → ℕ → List ℕ
 access_bytes kind cv last = (kind + (cv.number - 1) / 256) ∷ ((cv.number - 1) % 256) ∷ last ∷ []
 
+-- the bytes of the row of the service packet `packet`, without the error byte
 abbrev pub service_bytes : ServicePacket → List ℕ
 -- write byte: 011111AA AAAAAAAA DDDDDDDD
 service_bytes (Write cv value) = access_bytes 0x7C cv value

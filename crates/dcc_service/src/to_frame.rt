@@ -1,8 +1,7 @@
 //! Functions that return the frame of a service packet.
 
 ghost use Rattle.std.specs.Prelude.{◌≡◌, ◌≤◌};
-ghost use Rattle.dcc_wire.specs.Frames.{with_error_byte};
-ghost use Rattle.dcc_service.specs.Table.{access_bytes, service_spelling};
+ghost use Rattle.dcc_service.specs.Table.{access_bytes, service_bytes, service_spelling};
 
 use crate::ServicePacket;
 use dcc_packet::CvNumber;
@@ -14,6 +13,17 @@ impl ServicePacket {
     /// returns the packet for this frame.
     pub fn frame(&self) -> Frame
         ensures { result ≡ service_spelling self.now }
+    {
+        match Frame::with_error_byte(&self.bytes()) {
+            Ok(frame) => frame,
+            Err(_) => unreachable!(),
+        }
+    }
+
+    /// Returns the bytes of the frame that encodes the packet, without the error byte. They are the
+    /// bytes of the row of the packet in the table of service packets (NMRA S-9.2.3).
+    pub fn bytes(&self) -> [u8; 3]
+        ensures { result ≡ service_bytes self.now }
     {
         match self {
             ServicePacket::Write { cv, value } => access(0x7C, cv, *value),
@@ -28,17 +38,14 @@ impl ServicePacket {
     }
 }
 
-/// Returns the frame of an access to a CV. The parameter `kind` has the upper six bits of the first
-/// byte, and `last` is the last byte before the error byte.
-fn access(kind: u8, cv: &CvNumber, last: u8) -> Frame
+/// Returns the bytes of an access to a CV, without the error byte. The parameter `kind` has the
+/// upper six bits of the first byte, and `last` is the last byte.
+fn access(kind: u8, cv: &CvNumber, last: u8) -> [u8; 3]
     requires { kind ≤ 0x7C }
-    ensures { result ≡ with_error_byte (access_bytes kind cv.now last) }
+    ensures { result ≡ access_bytes kind cv.now last }
 {
     let from_zero = cv.number() - 1;
     let first = kind + (from_zero >> 8) as u8;
     let low = (from_zero & 0xFF) as u8;
-    match Frame::with_error_byte(&[first, low, last]) {
-        Ok(frame) => frame,
-        Err(_) => unreachable!(),
-    }
+    [first, low, last]
 }

@@ -17,37 +17,44 @@ use Rattle.dcc_regs.specs.Heard.{address_of}
 use Rattle.dcc_station.specs.Commands.{is_refreshed}
 use Rattle.dcc_station.specs.Sending.{has_address, without_address}
 
--- the entries after the first `at` of the entries `old` were passed
-abbrev pub passed : Address → ℕ → List Packet → List Packet
-passed to at old = drop at old ++ without_address to (take at old)
+-- the packets after the first `at` of the packets `old` were passed: those that a test keeps go to
+-- the end
+abbrev pub passed : (Packet → Bool) → ℕ → List Packet → List Packet
+passed keeps at old = drop at old ++ filter keeps (take at old)
 
--- one more entry is passed
-pub passed_more : (to : Address) (at : ℕ) (old now : List Packet) → at < length old → now ≡ passed to at old
-    → drop 1 now ++ without_address to (take 1 now) ≡ passed to (at + 1) old
-passed_more to at old now inside is =
+-- one more packet is passed
+pub passed_more : (keeps : Packet → Bool) (at : ℕ) (old now : List Packet) → at < length old
+    → now ≡ passed keeps at old → drop 1 now ++ filter keeps (take 1 now) ≡ passed keeps (at + 1) old
+passed_more keeps at old now inside is =
     let e = get_or old at Idle in
     let next = drop-cons old at Idle inside in
-    let kept = without_address to (take at old) in
+    let kept = filter keeps (take at old) in
     let here : now ≡ e ∷ drop (suc at) old ++ kept = is ∙ ap (λ l. l ++ kept) next in
-    let one : without_address to (take (at + 1) old) ≡ kept ++ without_address to (e ∷ []) =
-    ap (without_address to) (take_more old at Idle inside) ∙ filter-append _ (take at old) (e ∷ []) in
-    rw (here, one, add-one at) (append_assoc (drop (suc at) old) kept (without_address to (e ∷ [])))
+    let one : filter keeps (take (at + 1) old) ≡ kept ++ filter keeps (e ∷ []) =
+    ap (filter keeps) (take_more old at Idle inside) ∙ filter-append keeps (take at old) (e ∷ []) in
+    rw (here, one, add-one at) (append_assoc (drop (suc at) old) kept (filter keeps (e ∷ [])))
 
--- all entries are passed
-pub passed_all : (to : Address) (at : ℕ) (old : List Packet) → at ≡ length old → passed to at old
-    ≡ without_address to old
-passed_all to at old past = rw (past, drop-length old, take-length old) refl
+-- all packets are passed
+pub passed_all : (keeps : Packet → Bool) (at : ℕ) (old : List Packet) → at ≡ length old
+    → passed keeps at old ≡ filter keeps old
+passed_all keeps at old past = rw (past, drop-length old, take-length old) refl
 
--- a property of all entries holds for those that stay
-pub all_left : (to : Address) (P : Packet → Type 0) (l : List Packet) → AllByRecursion P l
-    → AllByRecursion P (without_address to l)
-all_left to P [] all = tt
-all_left to P (e ∷ l) all = by_case (has_address to e) (all_left to P l all.1)
+-- a property of all packets holds for those that stay
+pub all_left : (keeps : Packet → Bool) (P : Packet → Type 0) (l : List Packet) → AllByRecursion P l
+    → AllByRecursion P (filter keeps l)
+all_left keeps P [] all = tt
+all_left keeps P (e ∷ l) all = by_case (keeps e) (all_left keeps P l all.1)
   where
-    by_case : (has : Bool) → AllByRecursion P (without_address to l)
-        → AllByRecursion P (cond (not has) (e ∷ without_address to l) (without_address to l))
-    by_case true rest = rest
-    by_case false rest = (all.0, rest)
+    by_case : (stays : Bool) → AllByRecursion P (filter keeps l)
+        → AllByRecursion P (cond stays (e ∷ filter keeps l) (filter keeps l))
+    by_case true rest = (all.0, rest)
+    by_case false rest = rest
+
+-- the packets that go and those that stay are all packets
+pub both_parts : (goes : Packet → Bool) (l : List Packet)
+    → length (filter (λ e. not (goes e)) l) + length (filter goes l) ≡ length l
+both_parts goes l =
+    let both = length-filter_both goes (λ e. not (goes e)) (λ e. refl) l in omega (arith, both)
 
 same_itself : (a : Address) → same_address a a ≡ true
 same_itself Broadcast = refl
@@ -79,8 +86,7 @@ none_has to (e ∷ l) = by_case (has_address to e) refl (none_has to l)
 -- the number of entries that go
 pub fewer : (to : Address) (l : List Packet)
     → length (without_address to l) + length (filter (has_address to) l) ≡ length l
-fewer to l =
-    let both = length-filter_both (has_address to) (λ e. not (has_address to e)) (λ e. refl) l in omega (arith, both)
+fewer to l = both_parts (has_address to) l
 
 -- a packet that is refreshed is no broadcast
 refreshed_is_to_one : (e : Packet) → is_refreshed e ≡ true → has_address Broadcast e ≡ false

@@ -4,6 +4,7 @@ pub mod Transparent
 pub mod EntriesLeft
 pub mod EntriesForgotten
 pub mod EntriesInTurn
+pub mod FunctionLemmas
 pub mod StatePackets
 pub mod RingItems
 pub mod EntryDifferences
@@ -15,3 +16,6 @@ pub mod LeftByOne
 pub mod LeftToldRight
 pub mod StationRuns
 pub mod WaitingLemmas
+pub mod Standing
+pub mod StopEffects
+pub mod StopsObeyed

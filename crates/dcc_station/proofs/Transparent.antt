@@ -1,8 +1,8 @@
 -- Refreshing changes no register but what is pending.
 use Rattle.std.proofs.Common.{◌≡◌, ◌∙◌, refl, sym, ap, Bool, true, false, cond, List, [], ◌∷◌, ◌++◌}
-use Rattle.std.proofs.Common.{append_assoc, append-nil, add-one, Option, Some, None, inl, inr, ℕ, zero, suc, ◌+◌, ◌<◌}
-use Rattle.std.proofs.Common.{◌-◌, arith, length, drop}
-use Rattle.std.specs.Prelude.{◌≢◌, nat_le}
+use Rattle.std.proofs.Common.{append_assoc, append-nil, add-one, subst, Option, Some, None, inl, inr, ℕ, zero, suc, ◌+◌}
+use Rattle.std.proofs.Common.{◌<◌, ◌-◌, arith, length, drop}
+use Rattle.std.specs.Prelude.{◌≢◌, nat_le, not}
 use Rattle.std.specs.List.{AllByRecursion}
 use Rattle.std.proofs.lemmas.Bool.Decides.{nat_tests}
 use Rattle.std.proofs.lemmas.List.{append_cancel_right}
@@ -20,13 +20,14 @@ use Rattle.dcc_regs.specs.Heard.{hears, heard}
 use Rattle.dcc_regs.specs.Sets.{sets}
 use Rattle.dcc_regs.specs.Setting.{value_over, mode_in}
 use Rattle.dcc_regs.proofs.ResultByParts.{read, read-state_after, State, step, state_after, start}
-use Rattle.dcc_station.specs.Sending.{Sending, copies, Displaces, Leaves, with_entry, Refreshes, EntriesAfter, HandsOut}
+use Rattle.dcc_station.specs.Sending.{Sending, copies, Displaces, Leaves, with_entry, with_stop, Refreshes}
+use Rattle.dcc_station.specs.Sending.{EntriesAfter, HandsOut, has_address}
 use Rattle.dcc_station.specs.Commands.{is_refreshed}
 use Rattle.dcc_station.specs.Refresh.{StationRepresents, made, accepts, hands_out, forgets, intended}
 use Rattle.dcc_station.specs.Refresh.{RefreshIsTransparent}
-use Rattle.dcc_station.specs.Refresh.{TransparentWhereNothingWaits, WaitingIsSuffix, BroadcastsAreNoEntries}
+use Rattle.dcc_station.specs.Refresh.{TransparentWhereNothingWaits, WaitingIsSuffix}
 use Rattle.dcc_station.proofs.Tables.{refreshed_address, refreshed_is_no_write}
-use Rattle.dcc_station.proofs.EntriesForgotten.{all_left, none_to_all}
+use Rattle.dcc_station.proofs.EntriesForgotten.{all_left}
 use Rattle.dcc_regs.proofs.LawLemmas.{idle_is_unheard, values_are_decided}
 use Rattle.dcc_regs.proofs.ConflictLemmas.{conflict_from}
 use Rattle.dcc_regs.specs.Effects.{Differ}
@@ -34,12 +35,12 @@ use Rattle.dcc_station.proofs.Effects.{Core, core, effect, copied, then_effect, 
 use Rattle.dcc_station.proofs.Effects.{mode_other}
 use Rattle.dcc_station.proofs.Effects.{after_first, effect_twice, effect_plain_own, mode_kept, no_effect}
 
-all_append : (P : Packet → Type 0) (a b : List Packet) → AllByRecursion P a → AllByRecursion P b
+pub all_append : (P : Packet → Type 0) (a b : List Packet) → AllByRecursion P a → AllByRecursion P b
     → AllByRecursion P (a ++ b)
 all_append P [] b left right = right
 all_append P (x ∷ a) b left right = (left.0, all_append P a b left.1 right)
 
-all_dropped : (P : Packet → Type 0) (n : ℕ) (l : List Packet) → AllByRecursion P l → AllByRecursion P (drop n l)
+pub all_dropped : (P : Packet → Type 0) (n : ℕ) (l : List Packet) → AllByRecursion P l → AllByRecursion P (drop n l)
 all_dropped P zero l all = all
 all_dropped P (suc n) [] all = tt
 all_dropped P (suc n) (x ∷ l) all = all_dropped P n l all.1
@@ -55,11 +56,11 @@ no_difference v a b same k = grind arith
 
 module _ (who : Who) where
   -- an entry is a packet that is refreshed, and whose registers are at its values in a decoder that hears it
-  abbrev Entry : Core → Packet → Type 0
+  abbrev pub Entry : Core → Packet → Type 0
   Entry c e = (is_refreshed e ≡ true) × (then_effect (hears who e) c e ≡ c)
 
   -- an entry that does not conflict with a packet holds after it
-  entry_after : (c : Core) (p e : Packet) → Entry c e → ¬ Displaces p e → Entry (then_effect (hears who p) c p) e
+  pub entry_after : (c : Core) (p e : Packet) → Entry c e → ¬ Displaces p e → Entry (then_effect (hears who p) c p) e
   entry_after c p e entry stays = (entry.0, grind (arith, both, entry.1))
     where
       by_kind : (w cv29 : Bool) → is_own_write p ≡ w → writes_cv29 p ≡ cv29 → hears who p ≡ true → hears who e ≡ true
@@ -77,14 +78,14 @@ module _ (who : Who) where
       both h g is = no_effect (effect c p) e entry.0
           (by_kind (is_own_write p) (writes_cv29 p) refl refl h g (λ r. ap (λ (d : Core). d.plain r) is))
 
-  entries_left : (c : Core) (p : Packet) (l kept : List Packet) → AllByRecursion (Entry c) l → Leaves p l kept
+  pub entries_left : (c : Core) (p : Packet) (l kept : List Packet) → AllByRecursion (Entry c) l → Leaves p l kept
       → AllByRecursion (Entry (then_effect (hears who p) c p)) kept
   entries_left c p [] kept all e = rw e tt
   entries_left c p (e ∷ l) kept all (inl gone) = entries_left c p l kept all.1 gone.1
   entries_left c p (e ∷ l) kept all (inr (stays, (rest, is, left))) =
       rw is (entry_after c p e all.0 stays, entries_left c p l rest all.1 left)
 
-  refreshed_entries : (c : Core) (slots : ℕ) (p : Packet) (l new : List Packet) → AllByRecursion (Entry c) l
+  pub refreshed_entries : (c : Core) (slots : ℕ) (p : Packet) (l new : List Packet) → AllByRecursion (Entry c) l
       → Refreshes slots p l new → AllByRecursion (Entry (then_effect (hears who p) c p)) new
   refreshed_entries c slots p l new all (kept, left, is) = rw is (grind (arith, pushed, stay))
     where
@@ -99,22 +100,22 @@ module _ (who : Who) where
           (all_append P kept (p ∷ []) stay ((e, effect_twice (hears who p) c p), tt))
 
   -- packets one after the other, each of which the decoder hears or not
-  abbrev run : {S : Type 0} → (Bool → S → Packet → S) → S → List Packet → S
+  abbrev pub run : {S : Type 0} → (Bool → S → Packet → S) → S → List Packet → S
   run act s [] = s
   run act s (p ∷ later) = run act (act (hears who p) s p) later
 
-  run-more : {S : Type 0} (act : Bool → S → Packet → S) (s : S) (l : List Packet) (p : Packet)
+  pub run-more : {S : Type 0} (act : Bool → S → Packet → S) (s : S) (l : List Packet) (p : Packet)
       → run act s (l ++ p ∷ []) ≡ act (hears who p) (run act s l) p
   run-more act s [] p = refl
   run-more act s (q ∷ l) p = run-more act (act (hears who q) s q) l p
 
-  state_after-heard : (s : State) (l : List Packet) → state_after s (heard who l) ≡ run copied s l
+  pub state_after-heard : (s : State) (l : List Packet) → state_after s (heard who l) ≡ run copied s l
   state_after-heard s [] = refl
   state_after-heard s (p ∷ l) =
       let here = state_after-heard s l in let there = state_after-heard (step s p) l in grind (arith, here, there)
 
   -- two copies of each own write have its effect, whatever was pending
-  run-intended : (s : State) (l : List Packet) → core (run copied s (intended l)) ≡ run then_effect (core s) l
+  pub run-intended : (s : State) (l : List Packet) → core (run copied s (intended l)) ≡ run then_effect (core s) l
   run-intended s [] = refl
   run-intended s (p ∷ l) = by_kind (is_own_write p) refl (λ u. run-intended u l)
     where
@@ -129,15 +130,15 @@ module _ (who : Who) where
           more (copied (hears who p) s p) ∙ ap (λ c. run then_effect c l) (at_once (hears who p) s p other)
 
   -- at least one copy of a packet was sent: one more leaves c, the effect of the packet
-  abbrev Sent : Packet → Core → State → Type 0
+  abbrev pub Sent : Packet → Core → State → Type 0
   Sent p c s = (then_effect (hears who p) (core s) p ≡ c) × Waits (hears who p) s p
 
   module _ (m : RegisterMap) where
-    abbrev after_packets : List Packet → State
+    abbrev pub after_packets : List Packet → State
     after_packets packets = run copied (start m) packets
 
     -- what commands ask for
-    abbrev asked : List Packet → Core
+    abbrev pub asked : List Packet → Core
     asked commands = run then_effect (core (start m)) commands
 
     -- how far the first command that waits is sent, where the commands before it leave c
@@ -153,6 +154,7 @@ module _ (who : Who) where
       progress : Progress s.sent s.waiting done target (after_packets packets)
       entries : AllByRecursion (Entry target) s.entries
       some : 0 < s.repeats
+      going : s.stopping ≡ false
 
     -- what one more copy of a command leaves
     record Copied (sent repeats : ℕ) (p : Packet) (done entries : List Packet) (s : State) : Type 0 where
@@ -195,6 +197,7 @@ module _ (who : Who) where
       progress = (ap core (run-more copied (start m) packets out) ∙ same, inv.progress.1);
       entries = hold;
       some = inv.some;
+      going = inv.going;
     }
 
     next_keeps : (waiting entries : List Packet) (sent : ℕ) (s : Sending) (commands packets : List Packet)
@@ -220,7 +223,7 @@ module _ (who : Who) where
             inv.progress inv.entries changed)
 
         by_case : (t : Bool) → nat_le (copies s.repeats p) (sent + 1) ≡ t
-            → Invariant (cond t (record s { waiting = rest; sent = 0; entries = after })
+            → Invariant (cond t (record s { waiting = rest; stopping = false; sent = 0; entries = after })
             (record s { waiting = p ∷ rest; sent = sent + 1; entries = after })) commands (packets ++ p ∷ [])
         by_case true last = record {
           done = inv.done ++ p ∷ [];
@@ -229,6 +232,7 @@ module _ (who : Who) where
           progress = (one.whole last, one.asks);
           entries = one.entries_hold;
           some = inv.some;
+          going = refl;
         }
         by_case false more = record {
           done = inv.done;
@@ -237,6 +241,7 @@ module _ (who : Who) where
           progress = rw (add-one sent) (one.once, one.asks);
           entries = one.entries_hold;
           some = inv.some;
+          going = inv.going;
         }
 
     more_waits : (sent : ℕ) (waiting done : List Packet) (c : Core) (s : State) (p : Packet)
@@ -246,7 +251,15 @@ module _ (who : Who) where
     stands : (s : Sending) (commands packets : List Packet) → StationRepresents s commands packets
         → Invariant s commands packets
     stands _ _ _ (made queue slots repeats some) =
-        record { done = []; target = core (start m); split = refl; progress = (refl, refl); entries = tt; some = some }
+        record {
+          done = [];
+          target = core (start m);
+          split = refl;
+          progress = (refl, refl);
+          entries = tt;
+          some = some;
+          going = refl;
+        }
     stands _ _ _ (accepts old before packets p from sendable room) =
         let inv = stands old before packets from in record {
           done = inv.done;
@@ -255,17 +268,21 @@ module _ (who : Who) where
           progress = more_waits old.sent old.waiting inv.done inv.target (after_packets packets) p inv.progress;
           entries = inv.entries;
           some = inv.some;
+          going = inv.going;
         }
     stands _ _ _ (hands_out old new commands before p from next) =
-        next_keeps old.waiting old.entries old.sent old commands before p new (stands old commands before from) next
+        let inv = stands old commands before from in
+        next_keeps old.waiting old.entries old.sent old commands before p new inv
+        (subst (λ stopping. HandsOut (with_stop stopping old.waiting) old.entries old p new) inv.going next)
     stands _ _ _ (forgets old commands packets to from) =
         let inv = stands old commands packets from in record {
           done = inv.done;
           target = inv.target;
           split = inv.split;
           progress = inv.progress;
-          entries = all_left to (Entry inv.target) old.entries inv.entries;
+          entries = all_left (λ e. not (has_address to e)) (Entry inv.target) old.entries inv.entries;
           some = inv.some;
+          going = inv.going;
         }
 
     when_whole : (sent : ℕ) (waiting done : List Packet) (c : Core) (s : State) → sent ≡ 0
@@ -273,7 +290,7 @@ module _ (who : Who) where
     when_whole sent waiting done c s e progress = grind arith
 
 -- cores that are the same show the same registers, but for what is pending
-read_core : (s t : State) (r : Register) → r ≢ Register'.Pending → core s ≡ core t → read s r ≡ read t r
+pub read_core : (s t : State) (r : Register) → r ≢ Register'.Pending → core s ≡ core t → read s r ≡ read t r
 read_core s t r other e = grind arith
 
 pub refresh : RefreshIsTransparent
@@ -303,12 +320,6 @@ pub waiting_is_the_end : WaitingIsSuffix
 waiting_is_the_end s commands packets from =
     let inv = stands (Loco None) (λ r. None) s commands packets from in (inv.done, inv.split)
 
-pub broadcasts : BroadcastsAreNoEntries
-broadcasts s commands packets from =
-    let inv = stands (Loco None) (λ r. None) s commands packets from in
-    ap (λ l. record s { entries = l }) (none_to_all s.entries (refreshed s.entries inv.target inv.entries))
-  where
-    refreshed : (l : List Packet) (c : Core) → AllByRecursion (Entry (Loco None) c) l
-        → AllByRecursion (λ e. is_refreshed e ≡ true) l
-    refreshed [] c all = tt
-    refreshed (e ∷ l) c all = (all.0.0, refreshed l c all.1)
+pub never_stopped : (s : Sending) (commands packets : List Packet) → StationRepresents s commands packets
+    → s.stopping ≡ false
+never_stopped s commands packets from = (stands (Loco None) (λ r. None) s commands packets from).going

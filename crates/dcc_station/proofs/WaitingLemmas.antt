@@ -1,6 +1,6 @@
 -- The packets before the first copy of a command.
-use Rattle.std.proofs.Common.{◌≡◌, ◌∙◌, refl, sym, ap, Bool, true, false, cond, List, [], ◌∷◌, ◌++◌, ℕ, zero, suc}
-use Rattle.std.proofs.Common.{◌+◌, ◌*◌, ◌<◌, ◌≤◌, arith, length, drop, replicate, append_assoc}
+use Rattle.std.proofs.Common.{◌≡◌, ◌∙◌, refl, sym, ap, subst, Bool, true, false, cond, List, [], ◌∷◌, ◌++◌, ℕ, zero}
+use Rattle.std.proofs.Common.{suc, ◌+◌, ◌*◌, ◌<◌, ◌≤◌, arith, length, drop, replicate, append_assoc}
 use Rattle.std.proofs.Common.{length-append, length-drop, add-one}
 use Rattle.std.proofs.lemmas.List.{length-replicate}
 use Rattle.std.proofs.lemmas.List.Sums.{sum_by-append}
@@ -17,21 +17,25 @@ use Rattle.dcc_packet.specs.declared.packet.Packet.{Packet}
 use Rattle.dcc_packet.specs.Spelling.{spelling, BytesFit}
 use Rattle.dcc_packet.proofs.FrameSpellings.{spellings_are_frames}
 use Rattle.dcc_regs.specs.Writes.{is_own_write}
-use Rattle.dcc_station.specs.Sending.{Sending, copies, with_command, forgotten, sent_once_more, HandsOut}
-use Rattle.dcc_station.specs.Refresh.{StationRepresents, made, accepts, hands_out, forgets}
+use Rattle.dcc_station.specs.Sending.{Sending, copies, outgoing, with_command, with_stop, forgotten}
+use Rattle.dcc_station.specs.Sending.{sent_once_more, stop_packet, HandsOut}
+use Rattle.dcc_station.specs.Refresh.{StationRepresents}
+use Rattle.dcc_station.specs.Stops.{StationObeys, made, accepts, hands_out, forgets, stops}
+use Rattle.dcc_station.specs.Stops.{PacketsAreSentInTurn, CommandsWaitForFewPacketsAfterStops}
 use Rattle.dcc_station.specs.WaitingTimes.{RunsTo, stays, accepts_one, returns_one, forgets_one, all_copies}
 use Rattle.dcc_station.specs.WaitingTimes.{copies_left, sent_with}
 use Rattle.dcc_station.specs.WaitingTimes.{CommandsAreSentInTurn, CommandsWaitForFewPackets, SentPacketsAreShort}
 use Rattle.dcc_station.specs.WaitingTimes.{CommandsAreSentInTime, CommandsAreSentInMicroseconds, longest_time}
 use Rattle.dcc_station.specs.WaitingTimes.{SentPacketsTakeFewMicroseconds}
+use Rattle.dcc_station.proofs.StopsObeyed.{no_stop_waits, represent_obey}
 
--- fewer copies of the first command were sent than it has
+-- fewer copies of the first packet were sent than it has
 abbrev Unfinished : ℕ → ℕ → List Packet → Type 0
 Unfinished repeats sent [] = sent ≡ 0
 Unfinished repeats sent (p ∷ later) = sent < copies repeats p
 
 abbrev Counted : Sending → Type 0
-Counted s = (0 < s.repeats) × Unfinished s.repeats s.sent s.waiting
+Counted s = (0 < s.repeats) × Unfinished s.repeats s.sent (outgoing s)
 
 some_copies : (repeats : ℕ) (p : Packet) → 0 < repeats → 0 < copies repeats p
 some_copies repeats p some = by_kind (is_own_write p)
@@ -70,9 +74,22 @@ drop_none : (n : ℕ) → drop {A = Packet} n [] ≡ []
 drop_none zero = refl
 drop_none (suc n) = refl
 
--- the packets after state `s` are the remaining copies of some first commands, and the next command
+-- one more command waits behind all others
+line_more : (stopping : Bool) (waiting : List Packet) (p : Packet)
+    → with_stop stopping waiting ++ p ∷ [] ≡ with_stop stopping (waiting ++ p ∷ [])
+line_more true waiting p = refl
+line_more false waiting p = refl
+
+counted_more : (s : Sending) (p : Packet) → Counted s → Counted (with_command s p)
+counted_more s p counted = (
+  counted.0,
+  subst (Unfinished s.repeats s.sent) (line_more s.stopping s.waiting p)
+      (unfinished-more s.repeats s.sent (outgoing s) p counted.0 counted.1),
+)
+
+-- the packets after state `s` are the remaining copies of some first packets, and the next command
 abbrev InTurn : Sending → List Packet → Type 0
-InTurn s packets = (before later : List Packet) (p : Packet) → Counted s → s.waiting ≡ before ++ p ∷ later
+InTurn s packets = (before later : List Packet) (p : Packet) → Counted s → outgoing s ≡ before ++ p ∷ later
     → length (copies_left s before) < length packets
     → (rest : List Packet) × (packets ≡ copies_left s before ++ p ∷ rest)
 
@@ -81,11 +98,11 @@ one_earlier : (first p : Packet) (packets later all rest : List Packet) → pack
 one_earlier first p packets later all rest follows one =
     ap (λ l. first ∷ l) follows ∙ sym (ap (λ l. l ++ p ∷ rest) one)
 
--- the packet of one more copy of the command `first`, which does not empty the queue before `p`
+-- the packet of one more copy of `first`, which does not empty the queue before `p`
 copied : (s : Sending) (first : Packet) (others later after packets : List Packet) (p : Packet)
     → 0 < s.repeats → s.sent < copies s.repeats first
     → InTurn (sent_once_more s first (others ++ p ∷ later) after) packets
-    → s.waiting ≡ first ∷ others ++ p ∷ later
+    → outgoing s ≡ first ∷ others ++ p ∷ later
     → length (copies_left s (first ∷ others)) < suc (length packets)
     → (rest : List Packet) × (first ∷ packets ≡ copies_left s (first ∷ others) ++ p ∷ rest)
 copied s first others later after packets p some fewer = by_case (nat_le (copies s.repeats first) (s.sent + 1)) refl
@@ -97,9 +114,9 @@ copied s first others later after packets p some fewer = by_case (nat_le (copies
     whole = replicate c first ++ all_copies s.repeats others
 
     by_case : (t : Bool) → nat_le (copies s.repeats first) (s.sent + 1) ≡ t
-        → InTurn (cond t (record s { waiting = others ++ p ∷ later; sent = 0; entries = after })
+        → InTurn (cond t (record s { waiting = others ++ p ∷ later; stopping = false; sent = 0; entries = after })
         (record s { sent = s.sent + 1; entries = after })) packets
-        → s.waiting ≡ first ∷ others ++ p ∷ later
+        → outgoing s ≡ first ∷ others ++ p ∷ later
         → length (drop s.sent whole) < suc (length packets)
         → (rest : List Packet) × (first ∷ packets ≡ drop s.sent whole ++ p ∷ rest)
     by_case true last more is less =
@@ -115,69 +132,83 @@ copied s first others later after packets p some fewer = by_case (nat_le (copies
         let one : drop s.sent whole ≡ first ∷ drop (s.sent + 1) whole =
         rw (add-one s.sent) (drop_one c s.sent first (all_copies s.repeats others) fewer) in
         let short : length (drop (s.sent + 1) whole) < length packets = omega (arith, (rw one at less)) in
-        let rest = more (first ∷ others) later p (some, (rw is fewer_still)) is short in
+        let unfinished = subst (Unfinished s.repeats (s.sent + 1)) (sym is) fewer_still in
+        let rest = more (first ∷ others) later p (some, unfinished) is short in
         (rest.0, one_earlier first p packets (drop (s.sent + 1) whole) (drop s.sent whole) rest.0 rest.1 one)
 
--- the next packet, from a state with these parts
-returned : (waiting entries before later packets : List Packet) (s between : Sending) (out p : Packet)
-    → Counted (record s { waiting = waiting; entries = entries })
-    → InTurn between packets → HandsOut waiting entries (record s { waiting = waiting; entries = entries }) out between
-    → waiting ≡ before ++ p ∷ later → length (copies_left s before) < suc (length packets)
+-- the next packet, from a state that is to send `line`
+returned : (line entries before later packets : List Packet) (s between : Sending) (out p : Packet)
+    → 0 < s.repeats → Unfinished s.repeats s.sent line → outgoing s ≡ line
+    → InTurn between packets → HandsOut line entries s out between
+    → line ≡ before ++ p ∷ later → length (copies_left s before) < suc (length packets)
     → (rest : List Packet) × (out ∷ packets ≡ copies_left s before ++ p ∷ rest)
-returned [] entries [] later packets s between out p counted more next is less = absurd (grind (arith, is))
-returned [] entries (first ∷ others) later packets s between out p counted more next is less =
+returned [] entries [] later packets s between out p some fewer all more next is less = absurd (grind (arith, is))
+returned [] entries (first ∷ others) later packets s between out p some fewer all more next is less =
     absurd (grind (arith, is))
-returned (q ∷ rest) entries [] later packets s between out p counted more next is less =
+returned (q ∷ rest) entries [] later packets s between out p some fewer all more next is less =
     let here : q ≡ p = grind (arith, is) in
     (packets, rw (drop_none s.sent, next.0, here) refl)
-returned (q ∷ rest) entries (first ∷ others) later packets s between out p counted more next is less =
+returned (q ∷ rest) entries (first ∷ others) later packets s between out p some fewer all more next is less =
     let here : q ≡ first = grind (arith, is) in
     let there : rest ≡ others ++ p ∷ later = grind (arith, is) in
-    let from : Sending = record s { waiting = first ∷ others ++ p ∷ later; entries = entries } in
-    let moved : InTurn (sent_once_more from first (others ++ p ∷ later) next.1.0) packets =
+    let moved : InTurn (sent_once_more s first (others ++ p ∷ later) next.1.0) packets =
     (rw (next.1.2, here, there) at more) in
-    let result = copied from first others later next.1.0 packets p counted.0 (rw here at counted.1) moved refl less in
-    (result.0, (rw (next.0, here) result.1))
+    let result =
+    copied s first others later next.1.0 packets p some (rw here at fewer) moved (all ∙ is) less in
+    (result.0, ap (λ l. l ∷ packets) (next.0 ∙ here) ∙ result.1)
 
 pub run_in_turn : (s new : Sending) (packets : List Packet) → RunsTo s packets new → InTurn s packets
 run_in_turn _ _ _ (stays s) before later p counted is less = absurd (omega (arith, less))
 run_in_turn _ _ _ (accepts_one s new packets q run) before later p counted is less =
-    run_in_turn (with_command s q) new packets run before (later ++ q ∷ []) p
-    (counted.0, unfinished-more s.repeats s.sent s.waiting q counted.0 counted.1)
-    (ap (λ l. l ++ q ∷ []) is ∙ append_assoc before (p ∷ later) (q ∷ [])) less
+    run_in_turn (with_command s q) new packets run before (later ++ q ∷ []) p (counted_more s q counted)
+    (sym (line_more s.stopping s.waiting q) ∙ ap (λ l. l ++ q ∷ []) is ∙ append_assoc before (p ∷ later) (q ∷ [])) less
 run_in_turn _ _ _ (returns_one s between new q packets next run) before later p counted is less =
-    returned s.waiting s.entries before later packets s between q p counted (run_in_turn between new packets run) next
-    is less
+    returned (outgoing s) s.entries before later packets s between q p counted.0 counted.1 refl
+    (run_in_turn between new packets run) next is less
 run_in_turn _ _ _ (forgets_one s new packets to run) before later p counted is less =
     run_in_turn (forgotten s to) new packets run before later p counted is less
 
 -- one more packet keeps the count
-counted_next : (waiting entries : List Packet) (s new : Sending) (out : Packet)
-    → Counted (record s { waiting = waiting; entries = entries })
-    → HandsOut waiting entries (record s { waiting = waiting; entries = entries }) out new → Counted new
-counted_next [] [] s new out counted next = rw next.1 counted
-counted_next [] (e ∷ later) s new out counted next = rw next.1 counted
-counted_next (p ∷ rest) entries s new out counted next = rw next.1.2
+counted_next : (line entries : List Packet) (s new : Sending) (out : Packet)
+    → 0 < s.repeats → Unfinished s.repeats s.sent line → outgoing s ≡ line → HandsOut line entries s out new
+    → Counted new
+counted_next [] [] s new out some fewer all next = rw next.1 (some, subst (Unfinished s.repeats s.sent) (sym all) fewer)
+counted_next [] (e ∷ later) s new out some fewer all next =
+    rw next.1 (some, subst (Unfinished s.repeats s.sent) (sym all) fewer)
+counted_next (p ∷ rest) entries s new out some fewer all next = rw next.1.2
     (by_case next.1.0 (nat_le (copies s.repeats p) (s.sent + 1)) refl)
   where
     by_case : (after : List Packet) (t : Bool) → nat_le (copies s.repeats p) (s.sent + 1) ≡ t
-        → Counted (cond t (record s { waiting = rest; sent = 0; entries = after })
-        (record s { waiting = p ∷ rest; sent = s.sent + 1; entries = after }))
-    by_case after true last = (counted.0, unfinished-none s.repeats rest counted.0)
-    by_case after false more = (counted.0, grind (arith, nat_tests, more))
+        → Counted (cond t (record s { waiting = rest; stopping = false; sent = 0; entries = after })
+        (record s { sent = s.sent + 1; entries = after }))
+    by_case after true last = (some, unfinished-none s.repeats rest some)
+    by_case after false more =
+        let fewer_still : s.sent + 1 < copies s.repeats p = grind (arith, nat_tests, more) in
+        (some, subst (Unfinished s.repeats (s.sent + 1)) (sym all) fewer_still)
+
+counted_obeyed : (s : Sending) (commands packets : List Packet) → StationObeys s commands packets → Counted s
+counted_obeyed _ _ _ (made queue slots repeats some) = (some, refl)
+counted_obeyed _ _ _ (accepts old before packets p from sendable room) =
+    counted_more old p (counted_obeyed old before packets from)
+counted_obeyed _ _ _ (hands_out old new commands before p from next) =
+    let counted = counted_obeyed old commands before from in
+    counted_next (outgoing old) old.entries old new p counted.0 counted.1 refl next
+counted_obeyed _ _ _ (forgets old commands packets to from) = counted_obeyed old commands packets from
+counted_obeyed _ _ _ (stops old done packets from) =
+    let counted = counted_obeyed old (done ++ outgoing old) packets from in
+    (counted.0, some_copies old.repeats stop_packet counted.0)
 
 pub counted_always : (s : Sending) (commands packets : List Packet) → StationRepresents s commands packets → Counted s
-counted_always _ _ _ (made queue slots repeats some) = (some, refl)
-counted_always _ _ _ (accepts old before packets p from sendable room) =
-    let counted = counted_always old before packets from in
-    (counted.0, unfinished-more old.repeats old.sent old.waiting p counted.0 counted.1)
-counted_always _ _ _ (hands_out old new commands before p from next) =
-    counted_next old.waiting old.entries old new p (counted_always old commands before from) next
-counted_always _ _ _ (forgets old commands packets to from) = counted_always old commands packets from
+counted_always s commands packets from = counted_obeyed s commands packets (represent_obey s commands packets from)
+
+pub in_turn_with_stops : PacketsAreSentInTurn
+in_turn_with_stops s new commands gone before later packets p from is run less =
+    run_in_turn s new packets run before later p (counted_obeyed s commands gone from) is less
 
 pub in_turn : CommandsAreSentInTurn
 in_turn s new commands gone before later packets p from is run less =
-    run_in_turn s new packets run before later p (counted_always s commands gone from) is less
+    run_in_turn s new packets run before later p (counted_always s commands gone from)
+    (no_stop_waits s commands gone from ∙ is) less
 
 all_few : (repeats : ℕ) (l : List Packet) → length (all_copies repeats l) ≤ length l * (repeats + 1)
 all_few repeats [] = omega arith
@@ -188,12 +219,35 @@ all_few repeats (p ∷ later) =
 left_few : (s : Sending) (l : List Packet) → length (copies_left s l) ≤ length l * (s.repeats + 1)
 left_few s l = let few = all_few s.repeats l in rw length-drop (omega (arith, few))
 
+-- the packets that are to be sent when a command is accepted come before its first copy
+behind_all : (s new : Sending) (packets : List Packet) (p : Packet) → Counted s → RunsTo (with_command s p) packets new
+    → length (copies_left s (outgoing s)) < length packets
+    → (rest : List Packet) × (packets ≡ copies_left s (outgoing s) ++ p ∷ rest)
+behind_all s new packets p counted run less =
+    run_in_turn (with_command s p) new packets run (outgoing s) [] p (counted_more s p counted)
+    (sym (line_more s.stopping s.waiting p)) less
+
 pub few_packets : CommandsWaitForFewPackets
 few_packets s new commands gone packets p from run less =
-    let counted = counted_always s commands gone from in
+    let none = no_stop_waits s commands gone from in
     let few = left_few s s.waiting in
-    let rest = run_in_turn (with_command s p) new packets run s.waiting [] p
-    (counted.0, unfinished-more s.repeats s.sent s.waiting p counted.0 counted.1) refl (omega (arith, few, less)) in
+    let rest = behind_all s new packets p (counted_always s commands gone from) run
+    (subst (λ l. length (copies_left s l) < length packets) (sym none) (omega (arith, few, less))) in
+    (rest.0, subst (λ l. packets ≡ copies_left s l ++ p ∷ rest.0) none rest.1, few)
+
+one_more_line : (stopping : Bool) (waiting : List Packet) → length (with_stop stopping waiting) ≤ length waiting + 1
+one_more_line true waiting = omega arith
+one_more_line false waiting = omega arith
+
+wider : (n a b c : ℕ) → n ≤ a * c → a ≤ b → n ≤ b * c
+wider n a b c less more = grind arith
+
+pub few_packets_with_stops : CommandsWaitForFewPacketsAfterStops
+few_packets_with_stops s new commands gone packets p from run less =
+    let few : length (copies_left s (outgoing s)) ≤ (length s.waiting + 1) * (s.repeats + 1) =
+    wider _ (length (outgoing s)) (length s.waiting + 1) (s.repeats + 1) (left_few s (outgoing s))
+    (one_more_line s.stopping s.waiting) in
+    let rest = behind_all s new packets p (counted_obeyed s commands gone from) run (omega (arith, few, less)) in
     (rest.0, rest.1, few)
 
 pub short : SentPacketsAreShort

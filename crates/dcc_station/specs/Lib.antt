@@ -1,9 +1,11 @@
 pub mod Commands
 pub mod Sending
+pub mod Functions
 pub mod Limits
 pub mod Refresh
 pub mod WaitingTimes
 pub mod FaultNumbers
 pub mod States
+pub mod Stops
 pub mod Rings
 pub mod Inner

@@ -2,7 +2,6 @@
 -- refreshed packets.
 use Rattle.std.specs.Prelude.{ℕ, ◌≡◌, ◌≢◌, ◌<◌, true, List, [], ◌∷◌, ◌++◌, length, if◌then◌else◌}
 use Rattle.dcc_packet.specs.declared.address.Address.{Address}
-use Rattle.dcc_packet.specs.declared.address.Address.TheVariants.{Broadcast}
 use Rattle.dcc_packet.specs.declared.packet.Packet.{Packet}
 use Rattle.dcc_regs.specs.declared.register.Who.{Who}
 use Rattle.dcc_regs.specs.declared.register.Register.{Register}
@@ -10,10 +9,10 @@ use Rattle.dcc_regs.specs.declared.register.Register.TheVariants as registers
 use Rattle.dcc_regs.specs.Writes.{is_own_write}
 use Rattle.dcc_regs.specs.Result.{RegisterMap, HasHeard, result, step}
 use Rattle.dcc_station.specs.Commands.{is_sendable}
-use Rattle.dcc_station.specs.Sending.{Sending, idle_sending, with_command, forgotten, Next, NextAll}
+use Rattle.dcc_station.specs.Sending.{Sending, idle_sending, outgoing, with_command, forgotten, Next, NextAll}
 
--- a station in state `s` has accepted `commands` and returned `packets` since it was new. It can have
--- forgotten entries at any time.
+-- a station in state `s` has accepted `commands` and returned `packets` since it was new. It can
+-- have forgotten entries at any time. It was never stopped.
 pub data StationRepresents : Sending → List Packet → List Packet → Type 0 where
   made : (queue slots repeats : ℕ) → 0 < repeats → StationRepresents (idle_sending queue slots repeats) [] []
   accepts : (s : Sending) (commands packets : List Packet) (p : Packet) → StationRepresents s commands packets
@@ -52,11 +51,11 @@ TransparentWhereNothingWaits =
     (s : Sending) (commands packets : List Packet) → StationRepresents s commands packets → s.waiting ≡ [] →
     (who : Who) → LeaveTheSameButPending who packets (intended commands)
 
--- if no command waits, the station returns its entries in order, each once. After it has returned
--- each entry once, its state is unchanged.
+-- if no command and no stop waits, the station returns its entries in order, each once. After it
+-- has returned each entry once, its state is unchanged.
 abbrev pub EntriesAreHandedOutInTurn : Type 0
 EntriesAreHandedOutInTurn =
-    (s new : Sending) (packets : List Packet) → s.waiting ≡ [] → length packets ≡ length s.entries
+    (s new : Sending) (packets : List Packet) → outgoing s ≡ [] → length packets ≡ length s.entries
     → NextAll s packets new → (packets ≡ s.entries) × (new ≡ s)
 
 -- the commands in the queue are the last commands among the accepted commands
@@ -64,11 +63,6 @@ abbrev pub WaitingIsSuffix : Type 0
 WaitingIsSuffix =
     (s : Sending) (commands packets : List Packet) → StationRepresents s commands packets
     → (done : List Packet) × (commands ≡ done ++ s.waiting)
-
--- no entry has the broadcast address, so a station that forgets the broadcast address does not change
-abbrev pub BroadcastsAreNoEntries : Type 0
-BroadcastsAreNoEntries =
-    (s : Sending) (commands packets : List Packet) → StationRepresents s commands packets → forgotten s Broadcast ≡ s
 
 -- a station in state `s` has accepted `commands`, and a decoder has heard all packets that this
 -- station has returned. The registers of the decoder were `start` before these packets and are

@@ -11,7 +11,8 @@ use Rattle.dcc_station.specs.Sending.{Sending, copies, with_command, forgotten, 
 use Rattle.dcc_station.specs.Refresh.{StationRepresents}
 
 -- a station in state `s` returns the packets of a list, one after the other, and goes to state
--- `new`. The station can accept commands and forget entries before, between and after these packets.
+-- `new`. The station can accept commands and forget entries before, between and after these
+-- packets.
 pub data RunsTo : Sending → List Packet → Sending → Type 0 where
   stays : (s : Sending) → RunsTo s [] s
   accepts_one : (s new : Sending) (packets : List Packet) (p : Packet) → RunsTo (with_command s p) packets new

@@ -1,7 +1,9 @@
 //! Functions that return if a station sends or refreshes a packet, and how many copies it sends.
 
-ghost use Rattle.std.specs.Prelude.{◌≡◌, ◌≤◌};
+ghost use Rattle.std.specs.Prelude.{◌≡◌, ◌≢◌, ◌≤◌, IsTrue, ◌↔◌};
+ghost use Rattle.dcc_packet.specs.declared.address.Address.TheVariants.{Broadcast};
 ghost use Rattle.dcc_packet.specs.declared.packet.Packet.TheVariants.{Loco as ToLoco};
+ghost use Rattle.dcc_regs.specs.Safety as safety;
 ghost use Rattle.dcc_regs.specs.Writes as writes;
 ghost use Rattle.dcc_station.specs.Commands as commands;
 ghost use Rattle.dcc_station.specs.Sending as sending;
@@ -64,6 +66,35 @@ pub fn writes_cv29(command: &Packet) -> bool
         } => cv.number() == 29,
         _ => false,
     }
+}
+
+/// Returns true if the packet sets the speed of a locomotive to a step, and not to a stop.
+pub fn can_move(packet: &Packet) -> bool
+    ensures { result ≡ safety.can_move packet.now }
+{
+    match packet {
+        Packet::Loco { to, what } => can_move_at(to, what),
+        _ => false,
+    }
+}
+
+/// Returns true if the instruction `what` to the address `to` sets the speed to a step. A broadcast
+/// with 28 steps sets the speed only to a stop.
+fn can_move_at(to: &Address, what: &What) -> bool
+    ensures { result ≡ safety.can_move (ToLoco to.now what.now) }
+{
+    match what {
+        What::Speed28 { bits, .. } => is_for_one(to) && bits.bits() >= 4,
+        What::Speed128 { bits, .. } => bits.bits() >= 2,
+        _ => false,
+    }
+}
+
+/// Returns true if the address is the address of one locomotive.
+fn is_for_one(to: &Address) -> bool
+    ensures { IsTrue result ↔ (to.now ≢ Broadcast) }
+{
+    !matches!(to, Address::Broadcast)
 }
 
 /// Returns the number of copies of a command that are sent in a row: `repeats`, or one more for an

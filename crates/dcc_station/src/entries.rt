@@ -83,7 +83,7 @@ pub fn displaces_loco(command: &Packet, to: &Address, what: &What) -> bool
 
 /// Returns the result of [`displaces`] for any two packets. The function compares registers, which
 /// takes longer than [`displaces`].
-fn displaces_by_registers(command: &Packet, entry: &Packet) -> bool
+pub fn displaces_by_registers(command: &Packet, entry: &Packet) -> bool
     ensures { IsTrue result ↔ Displaces command.now entry.now }
 {
     if entry.is(command) {

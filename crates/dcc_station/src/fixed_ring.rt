@@ -110,11 +110,11 @@ impl<const CAP: usize> PacketRing for FixedRing<CAP> {
         self.packets.get(self.start).copied()
     }
 
-    fn pop_front(&mut self) -> Option<Packet> {
+    fn pop_front(&mut self) {
         if self.len == 0 {
-            return None;
+            return;
         }
-        Some(self.take_front())
+        let _front = self.take_front();
     }
 
     fn push_back(&mut self, packet: Packet) {

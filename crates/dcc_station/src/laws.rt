@@ -1,11 +1,17 @@
 //! Theorems about the packets that a station sends.
 
-ghost use Rattle.dcc_station.specs.Refresh.{BroadcastsAreNoEntries, EntriesAreHandedOutInTurn, EntriesForgotten};
+ghost use Rattle.dcc_station.specs.Refresh.{EntriesAreHandedOutInTurn, EntriesForgotten};
 ghost use Rattle.dcc_station.specs.Refresh.{HeardIsIntended, NothingHandedOut};
 ghost use Rattle.dcc_station.specs.Refresh.{OneMoreAccepted};
 ghost use Rattle.dcc_station.specs.Refresh.{OneMoreHandedOut, RefreshIsTransparent};
 ghost use Rattle.dcc_station.specs.Refresh.{TransparentWhereNothingWaits, WaitingIsSuffix};
 ghost use Rattle.dcc_station.specs.States.{StatesAreNoEntries, StatesConflictWithNoEntry};
+ghost use Rattle.dcc_station.specs.Stops.{BroadcastsAreNoEntries, LocosStandAfterStops};
+ghost use Rattle.dcc_station.specs.Stops.{CommandsWaitForFewPacketsAfterStops, PacketsAreSentInTurn};
+ghost use Rattle.dcc_station.specs.Stops.{NoStepAfterStops, NoStopWaitsUnasked};
+ghost use Rattle.dcc_station.specs.Stops.{StandingGoesOnByCommands, StandingGoesOnByForgetting};
+ghost use Rattle.dcc_station.specs.Stops.{StandingGoesOnByPackets, StandingGoesOnByStops};
+ghost use Rattle.dcc_station.specs.Stops.{StationsThatRepresentObey, StopsAreTransparent, OutgoingIsSuffix};
 ghost use Rattle.dcc_station.specs.WaitingTimes.{CommandsAreSentInMicroseconds, CommandsAreSentInTime};
 ghost use Rattle.dcc_station.specs.WaitingTimes.{CommandsAreSentInTurn, CommandsWaitForFewPackets};
 ghost use Rattle.dcc_station.specs.WaitingTimes.{ReturnedPacketsAreRuns, RunsGoOnByCommands};
@@ -15,26 +21,29 @@ ghost use Rattle.dcc_station.specs.WaitingTimes.{longest_time};
 ghost use Rattle.dcc_wire.specs.NominalTimings.{main_timing};
 ghost use Rattle.std.specs.Prelude.{◌≡◌};
 
-/// Theorem: let no command in the queue be partly sent, and let a decoder have heard every packet
-/// of the station. Then the decoder has the result of the commands that have left the queue, each
-/// command once and each own write twice. The theorem is about each register except Pending.
+/// Theorem: let a station never have been stopped. Let no command in its queue be partly sent, and
+/// let a decoder have heard every packet of the station. Then the decoder has the result of the
+/// commands that have left the queue, each command once and each own write twice. The theorem is
+/// about each register except Pending.
 pub fn refresh_is_transparent()
     ensures { RefreshIsTransparent }
 {}
 
-/// Theorem: if the queue is empty, a decoder that heard every packet has the result of all accepted
-/// commands, in each register except Pending.
+/// Theorem: let a station never have been stopped. If its queue is empty, a decoder that heard
+/// every packet has the result of all accepted commands, in each register except Pending. The
+/// theorem [`stops_are_transparent`] is about stations that were stopped.
 pub fn refresh_is_transparent_where_nothing_waits()
     ensures { TransparentWhereNothingWaits }
 {}
 
-/// Theorem: if the queue is empty, the station returns each entry once, in order. After these
-/// packets the state of the station is the state before these packets.
+/// Theorem: if no stop waits and the queue is empty, the station returns each entry once, in order.
+/// After these packets the state of the station is the state before these packets.
 pub fn entries_are_handed_out_in_turn()
     ensures { EntriesAreHandedOutInTurn }
 {}
 
-/// Theorem: the commands in the queue are a suffix of the list of accepted commands.
+/// Theorem: if a station was never stopped, the commands in its queue are a suffix of the list of
+/// accepted commands.
 pub fn waiting_is_the_end()
     ensures { WaitingIsSuffix }
 {}
@@ -51,21 +60,24 @@ pub fn runs_go_on()
     ensures forgotten { RunsGoOnByForgetting }
 {}
 
-/// Theorem: the next packets of a station are the remaining copies of the first commands of the
-/// queue, and then a copy of the next command. So the number of packets before the first copy of a
-/// command is the number of remaining copies of the commands before it. Commands that the station
-/// accepts later do not change this number. The theorem is about the states and steps of `Sending`.
-/// `Station`, `FixedStation` and the station in C all have these states and steps.
+/// Theorem: let a station never have been stopped. Its next packets are the remaining copies of the
+/// first commands of the queue, and then a copy of the next command. So the number of packets
+/// before the first copy of a command is the number of remaining copies of the commands before it.
+/// Commands that the station accepts later do not change this number. The theorem is about the
+/// states and steps of `Sending`. `Station`, `FixedStation` and the station in C all have these
+/// states and steps. The theorem [`commands_are_sent_after_stops`] is about stations that were
+/// stopped.
 pub fn commands_are_sent_in_turn()
     ensures { CommandsAreSentInTurn }
 {}
 
-/// Theorem: if `k` commands wait when a station accepts a command, the first copy of this command
-/// follows after at most `n = k * (repeats + 1)` packets. Let `preamble` be the number of ones
-/// before each packet. Then the first copy is complete within `(n + 1) * 2 * (preamble + 55)`
-/// half-bits, counted from the end of the last packet that the station returned before it accepted
-/// the command. The clause `microseconds` bounds this time by the durations of the half-bits. The
-/// theorem is about `Station`, `FixedStation` and the station in C.
+/// Theorem: let a station never have been stopped. If `k` commands wait when the station accepts a
+/// command, the first copy of this command follows after at most `n = k * (repeats + 1)` packets.
+/// Let `preamble` be the number of ones before each packet. Then the first copy is complete within
+/// `(n + 1) * 2 * (preamble + 55)` half-bits, counted from the end of the last packet that the
+/// station returned before it accepted the command. The clause `microseconds` bounds this time by
+/// the durations of the half-bits. The theorem is about `Station`, `FixedStation` and the station
+/// in C.
 pub fn commands_are_sent_in_time()
     ensures packets { CommandsWaitForFewPackets }
     ensures half_bits { CommandsAreSentInTime }
@@ -94,19 +106,66 @@ pub fn states_conflict_with_no_entry()
 {}
 
 /// Theorem: an entry of a station never has the broadcast address. So a station that forgets the
-/// broadcast address does not change.
+/// broadcast address does not change. The station can have been stopped any number of times.
 pub fn broadcasts_are_no_entries()
     ensures { BroadcastsAreNoEntries }
 {}
 
-/// Theorem: let a decoder hear each packet of a [`Station`](crate::Station). If the queue is empty,
-/// the decoder has the result of the commands. A caller with its own loop uses this theorem. The
-/// clauses are about the start, each packet that the decoder hears, each accepted command,
-/// forgotten entries, and the time when the queue is empty.
+/// Theorem: let a decoder hear each packet of a [`Station`](crate::Station) that was never stopped.
+/// If the queue is empty, the decoder has the result of the commands. A caller with its own loop
+/// uses this theorem. The clauses are about the start, each packet that the decoder hears, each
+/// accepted command, forgotten entries, and the time when the queue is empty.
 pub fn stations_are_heard()
     ensures begins { NothingHandedOut }
     ensures handed_out { OneMoreHandedOut }
     ensures accepted { OneMoreAccepted }
     ensures forgotten { EntriesForgotten }
     ensures intended { HeardIsIntended }
+{}
+
+/// Theorem: after [`stop`](crate::StationOver::stop), the first packet of the station is the stop.
+/// Until the station accepts a command that sets the speed of a locomotive to a step, no packet
+/// sets a speed to a step. So each locomotive decoder that hears the packets of the station stands,
+/// whatever packets it heard before, and whatever its address and its speed mode are. The station
+/// can accept other commands, forget entries and be stopped again. The theorem is about `Station`,
+/// `FixedStation` and the station in C.
+pub fn locos_stand_after_stops()
+    ensures packets { NoStepAfterStops }
+    ensures stand { LocosStandAfterStops }
+{}
+
+/// Theorem: the relation `RunsWithoutSteps` holds for the packets that a station returns, as long
+/// as it accepts no command that sets the speed of a locomotive to a step. The clauses are about
+/// one more packet, one more command, forgotten entries and a stop. A caller with its own loop uses
+/// this theorem as the premise of [`locos_stand_after_stops`].
+pub fn standing_goes_on()
+    ensures handed_out { StandingGoesOnByPackets }
+    ensures accepted { StandingGoesOnByCommands }
+    ensures forgotten { StandingGoesOnByForgetting }
+    ensures stopped { StandingGoesOnByStops }
+{}
+
+/// Theorem: let a station be stopped any number of times. If no stop waits and the queue is empty,
+/// a decoder that heard every packet has the result of all accepted commands and stops, in each
+/// register except Pending. A stop comes before the commands that waited when it was called. The
+/// commands that a stop withdrew are left out, except a command of which a copy was sent.
+pub fn stops_are_transparent()
+    ensures transparent { StopsAreTransparent }
+    ensures suffix { OutgoingIsSuffix }
+{}
+
+/// Theorem: let a station be stopped any number of times. Its next packets are the remaining copies
+/// of the stop and of the first commands of the queue, and then a copy of the next command. If `k`
+/// commands wait when the station accepts a command, the first copy of this command follows after
+/// at most `(k + 1) * (repeats + 1)` packets.
+pub fn commands_are_sent_after_stops()
+    ensures in_turn { PacketsAreSentInTurn }
+    ensures packets { CommandsWaitForFewPacketsAfterStops }
+{}
+
+/// Theorem: the relation `StationObeys`, about stations that can have been stopped, holds for each
+/// station that was never stopped. In a station that was never stopped, no stop waits.
+pub fn stations_without_stops()
+    ensures obey { StationsThatRepresentObey }
+    ensures no_stop { NoStopWaitsUnasked }
 {}

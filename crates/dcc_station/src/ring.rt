@@ -31,9 +31,8 @@ pub trait PacketRing: Drop {
     fn front(&self) -> Option<Packet>
         ensures { result ≡ slice_get (buffer self.now).items 0 };
 
-    /// Removes and returns the first packet. Returns `None` if the ring is empty.
-    fn pop_front(&mut self) -> Option<Packet>
-        ensures value { result ≡ slice_get (buffer self.old).items 0 }
+    /// Removes the first packet. An empty ring does not change.
+    fn pop_front(&mut self)
         ensures items { buffer self.new ≡ rings.buffer (drop 1 (buffer self.old).items) (buffer self.old).capacity };
 
     /// Appends a packet. If the ring is full, the function removes the first packet.
@@ -80,8 +79,8 @@ impl PacketRing for HeapCircularBuffer<Packet> {
         HeapCircularBuffer::front(self).copied()
     }
 
-    fn pop_front(&mut self) -> Option<Packet> {
-        HeapCircularBuffer::pop_front(self)
+    fn pop_front(&mut self) {
+        let _ = HeapCircularBuffer::pop_front(self);
     }
 
     fn push_back(&mut self, packet: Packet) {

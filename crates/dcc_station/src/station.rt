@@ -7,10 +7,13 @@ ghost use Rattle.std.specs.Prelude.{IsOk};
 ghost use Rattle.std.specs.Prelude.{OnOk, OnErr, ◌↔◌};
 ghost use Rattle.dcc_packet.specs.declared.packet.Packet.{Packet};
 ghost use Rattle.dcc_regs.specs.Heard.{address_of};
+ghost use Rattle.dcc_regs.specs.Safety.{can_move};
 ghost use Rattle.dcc_station.specs.Commands as commands;
 ghost use Rattle.dcc_station.specs.Limits.{is_within_limits};
 ghost use Rattle.dcc_station.specs.Refresh.{StationRepresents};
-ghost use Rattle.dcc_station.specs.Sending.{idle_sending, with_command, forgotten, has_address, Next};
+ghost use Rattle.dcc_station.specs.Sending.{idle_sending, outgoing, with_command, forgotten, has_address, Next};
+ghost use Rattle.dcc_station.specs.Sending.{stopped, stop_packet, not_withdrawn};
+ghost use Rattle.dcc_station.specs.Stops.{StationObeys, partly_sent};
 ghost use Rattle.dcc_station.specs.WaitingTimes.{copies_left};
 
 use crate::fault::{Refused, StationFault};
@@ -18,6 +21,7 @@ use crate::fixed_ring::FixedRing;
 use crate::forget::forget_address;
 use crate::machine::{hand_out, take_command};
 use crate::ring::PacketRing;
+use crate::stop::stop_all;
 use circular_buffer::HeapCircularBuffer;
 use dcc_packet::{Address, Packet};
 use std::alloc::{AllocError, Global};
@@ -34,6 +38,7 @@ use std::marker::Model;
 #[derive(Drop)]
 pub struct StationOver<Q: PacketRing, S: PacketRing> {
     commands: Q,
+    stopping: bool,
     sent: u8,
     entries: S,
     repeats: u8,
@@ -56,7 +61,7 @@ impl<Q: PacketRing, S: PacketRing> Model for StationOver<Q, S> {
 
     ghost Value = { Sending };
 
-    ghost view = { λ s. sending_over (Q.buffer s.commands) s.sent (S.buffer s.entries) s.repeats };
+    ghost view = { λ s. sending_over (Q.buffer s.commands) s.stopping s.sent (S.buffer s.entries) s.repeats };
 
     ghost invariant = { λ s. (0 < s.repeats) × (s.repeats ≤ 8) × (s.sent ≤ 8) };
 }
@@ -149,6 +154,7 @@ impl<Q: PacketRing, S: PacketRing> StationOver<Q, S> {
     {
         StationOver {
             commands,
+            stopping: false,
             sent: 0,
             entries,
             repeats,
@@ -171,6 +177,9 @@ impl<Q: PacketRing, S: PacketRing> StationOver<Q, S> {
         ensures stands { OnOk result
             ((commands packets : List Packet) → StationRepresents self.old commands packets
             → StationRepresents self.new (commands ++ packet ∷ []) packets) }
+        ensures obeys { OnOk result
+            ((commands packets : List Packet) → StationObeys self.old commands packets
+            → StationObeys self.new (commands ++ packet ∷ []) packets) }
     {
         take_command(&mut self.commands, packet)
     }
@@ -190,11 +199,38 @@ impl<Q: PacketRing, S: PacketRing> StationOver<Q, S> {
         ensures copies { (before : List Packet) → copies_left self.new before ≡ copies_left self.old before }
         ensures stands { (commands packets : List Packet) → StationRepresents self.old commands packets
             → StationRepresents self.new commands packets }
+        ensures obeys { (commands packets : List Packet) → StationObeys self.old commands packets
+            → StationObeys self.new commands packets }
     {
         forget_address(&mut self.entries, &address);
     }
 
-    /// Returns the number of commands in the queue.
+    /// Stops all locomotives. The next packets of the station are the copies of `loco all speed28 f
+    /// 3`, the emergency stop of all locomotives. There are as many copies as of other commands,
+    /// and they come before the commands in the queue. The stop takes no place in the queue, so the
+    /// function also works if the queue is full. The directions of the locomotives stay (NMRA
+    /// S-9.2.1, RCN-212).
+    ///
+    /// The function removes the commands that set the speed of a locomotive to a step, and returns
+    /// their number. All other commands stay in the queue in their order: resets, stops, functions,
+    /// binary states, CV accesses and commands to accessory decoders. If a command that stays was
+    /// partly sent, all its copies are sent again after the stop, so the copies of a CV write stay
+    /// in a row. If a stop already waits, the number of its copies starts again.
+    ///
+    /// The first copy of the stop removes the entries that conflict with the stop, as the first
+    /// copy of a command does. So no locomotive moves again before the station accepts a command
+    /// that sets a speed to a step.
+    pub fn stop(&mut self) -> usize
+        ensures stops { self.new ≡ stopped self.old }
+        ensures withdrawn { result ≡ length (filter can_move self.old.waiting) }
+        ensures obeys { (done packets : List Packet) → StationObeys self.old (done ++ outgoing self.old) packets
+            → StationObeys self.new
+            (done ++ filter can_move (partly_sent self.old) ++ stop_packet ∷ not_withdrawn self.old.waiting) packets }
+    {
+        stop_all(&mut self.commands, &mut self.stopping, &mut self.sent)
+    }
+
+    /// Returns the number of commands in the queue. A stop that waits does not count.
     pub fn waiting(&self) -> usize
         ensures { result ≡ length self.now.waiting }
     {
@@ -208,9 +244,10 @@ impl<Q: PacketRing, S: PacketRing> StationOver<Q, S> {
         self.entries.len()
     }
 
-    /// Returns the next packet. The packet is a copy of the first command of the queue. If the
-    /// queue is empty, the packet is the first entry, which moves to the end. If the queue is empty
-    /// and there is no entry, the packet is an idle packet.
+    /// Returns the next packet. The packet is a copy of the stop if a stop waits, otherwise a copy
+    /// of the first command of the queue. If no stop waits and the queue is empty, the packet is
+    /// the first entry, which moves to the end. If there is no entry either, the packet is an idle
+    /// packet.
     ///
     /// The first copy of a command removes the entries that equal the command or conflict with it.
     /// If the command writes CV29, the entries with the address of the command are removed too. A
@@ -220,12 +257,18 @@ impl<Q: PacketRing, S: PacketRing> StationOver<Q, S> {
         ensures next { Next self.old result self.new }
         ensures stands { (commands packets : List Packet) → StationRepresents self.old commands packets
             → StationRepresents self.new commands (packets ++ result ∷ []) }
+        ensures obeys { (commands packets : List Packet) → StationObeys self.old commands packets
+            → StationObeys self.new commands (packets ++ result ∷ []) }
     {
+        let mut packet = Packet::Idle;
         hand_out(
             &mut self.commands,
+            &mut self.stopping,
             &mut self.sent,
             &mut self.entries,
             self.repeats,
-        )
+            &mut packet,
+        );
+        packet
     }
 }

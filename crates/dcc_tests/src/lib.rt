@@ -3,6 +3,8 @@
 #![tactic(auto)]
 
 #[cfg(test)]
+mod function_tests;
+#[cfg(test)]
 mod io_counted_tests;
 #[cfg(test)]
 mod kept_tests;

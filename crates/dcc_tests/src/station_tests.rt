@@ -19,8 +19,16 @@ fn line_of(letter: &str) -> &'static str {
         "M" => "frame c3e8b299",
         // a speed for the long address 3
         "N" => "loco l3 speed28 f 4",
-        // a stop for all locomotive decoders
+        // a stop for all locomotive decoders, the packet of a stop of the station, an emergency stop
+        // of locomotive 3, and two speeds with 128 steps for it, a stop and a step
         "S" => "frame 006060",
+        "E" => "loco all speed28 f 3",
+        "P" => "loco s3 speed28 f 2",
+        "Q" => "loco s3 speed128 r 0",
+        "R" => "loco s3 speed128 r 2",
+        // a step for all locomotives, which no locomotive takes, and a reset of all
+        "G" => "loco all speed28 f 20",
+        "H" => "loco all reset",
         // `W` writes 2 to CV29 of locomotive 3, and `T` writes 1 to bit 5 of this CV. `V` verifies
         // CV29 of all locomotives, and `X` writes this CV.
         "W" => "frame 03ec1c02f1",
@@ -37,8 +45,8 @@ fn line_of(letter: &str) -> &'static str {
 
 /// Makes one step of a station and asserts the result. `+A`: the station accepts command A. `-A:4`:
 /// the station refuses command A with error C4 and returns this command. `=A`: the station sends
-/// packet A. `~A`: the station forgets the address of packet A. `0:1`: no command waits, and the
-/// station has one entry.
+/// packet A. `~A`: the station forgets the address of packet A. `!2`: the station is stopped, and 2
+/// commands are withdrawn. `0:1`: no command waits, and the station has one entry.
 fn go<Q: PacketRing, S: PacketRing>(
     rt: &impl Abort,
     station: &mut StationOver<Q, S>,
@@ -48,7 +56,7 @@ fn go<Q: PacketRing, S: PacketRing>(
         Some(parts) => parts,
         None => (step, "0"),
     };
-    let letter = front.trim_start_matches(['+', '-', '=', '~']);
+    let letter = front.trim_start_matches(['+', '-', '=', '~', '!']);
     let packet = Packet::from_line(line_of(letter))?;
     if step.starts_with('=') {
         assert!(rt; station.next().is(&packet), "{step}");
@@ -58,6 +66,10 @@ fn go<Q: PacketRing, S: PacketRing>(
         if let Some(address) = address_of(&packet) {
             station.forget(address);
         }
+        return Ok(());
+    }
+    if let Some(withdrawn) = step.strip_prefix('!') {
+        assert!(rt; station.stop() == number(withdrawn) as usize, "{step}");
         return Ok(());
     }
     if letter.len() == front.len() {
@@ -99,6 +111,17 @@ const STATIONS: &str = "\
     forgotten_and_sent_again | 4 | 4 | 1 | +A =A ~A =I +A =A 0:1 =A
     rings_go_round_and_forget | 2 | 3 | 1 | +A +L =A =L +M =M =A =L =M =A ~A 0:2 =L =M +N =N 0:3 =L =M =N ~L 0:1 =N
     rings_go_round | 2 | 3 | 1 | +A +B -C:4 =A +C =B =C 0:3 =A +L +A =L 1:3 =A +B =B =L =A =B +C +U =C =U =A =B =C
+    a_stop_comes_before_commands | 4 | 4 | 2 | +B +C !0 2:0 =E =E 2:0 =B =B =C 1:2 =C 0:2 =B
+    a_stop_ends_refreshing_speeds | 4 | 4 | 1 | +A +B =A =B 0:2 !0 0:2 =E 0:1 =B =B
+    steps_are_withdrawn | 6 | 4 | 1 | +A +P +Q +R +L +B 6:0 !3 3:0 =E =P =Q =B 0:2 =Q =B
+    commands_without_a_step_stay | 8 | 4 | 1 | +S +G +H +U +Z +W +T +B !0 8:0 =E =S =G =H =U =Z =W
+    a_stop_is_accepted_with_a_full_queue | 2 | 4 | 2 | +B +C -B:4 !0 2:0 =E -A:4 =E =B =B =C =C 0:2
+    a_second_stop_starts_the_copies_again | 4 | 4 | 3 | +B !0 =E =E !0 =E =E =E =B =B =B 0:1 =B
+    a_write_starts_again_after_a_stop | 4 | 4 | 2 | +W =W =W !0 1:0 =E =E 1:0 =W =W =W 0:0 =I
+    a_step_that_was_partly_sent_is_withdrawn | 4 | 4 | 3 | +A +B =A 2:1 !1 1:1 =E 1:0 =E =E =B =B =B 0:1 =B
+    a_command_after_a_stop_moves_again | 4 | 4 | 1 | !0 +A 1:0 =E =A 0:1 =A
+    nothing_waits_after_a_stop | 4 | 4 | 2 | !0 0:0 =E =E =I
+    forgotten_while_a_stop_waits | 4 | 4 | 1 | +L +M +B =L =M =B 0:3 !0 ~L 0:1 =E 0:1 =B =B
     all_of_one_station | 4 | 4 | 1 | +A =A =A +S =S =I =I +A +B +A +B -C:4 -I:3";
 
 #[test]

@@ -41,8 +41,8 @@ pub struct Timings {
 
 impl Timings {
     ghost use Rattle.std.specs.Prelude.{◌≡◌, ◌<◌, ◌+◌, ◌^◌, ℕ, List, [], ◌++◌, length, replicate, sum};
-    ghost use Rattle.std.specs.Prelude.{◌∷◌, ◌↔◌, IsTrue, false};
-    ghost use Rattle.dcc_wire.specs.Framing.{Hunting, is_hunting, report_at, rest, seen};
+    ghost use Rattle.std.specs.Prelude.{◌∷◌, ◌≢◌, ◌↔◌, IsTrue, false};
+    ghost use Rattle.dcc_wire.specs.Framing.{Hunting, StandsFor, is_hunting, report_at, rest, seen};
     ghost use Rattle.dcc_wire.specs.Half.{class_of};
     ghost use Rattle.dcc_wire.specs.Runs.{still_ones};
     ghost use Rattle.dcc_timing.specs.Numbers.{keep_last};
@@ -82,11 +82,72 @@ impl Timings {
             → seen (halves ++ us ∷ []) ≡ seen halves ++ report_at (length halves) result }
         ensures count { self.new.halves ≡ self.old.halves + 1 }
     {
-        let seen = push_framer(&mut self.framer, us);
-        self.recent.push(us);
-        self.halves += 1;
-        self.time += u64::from(us);
-        self.classes.add(us, 1);
+        if self.pass(us) {
+            return Seen::Nothing;
+        }
+        self.push_shown(us)
+    }
+
+    /// Appends a half-bit of `us` microseconds to the list if this half-bit has no outcome, and
+    /// returns true. Otherwise returns false, and nothing changes: the caller passes the half-bit to
+    /// [`push_shown`](Self::push_shown). Most half-bits of a track have no outcome. The longer list
+    /// must have fewer than 2^32 half-bits.
+    #[inline(always)]
+    pub fn pass(&mut self, us: u16) -> bool
+        requires { self.old.halves + 1 < 2 ^ 32 }
+        // Some list has the old statistics.
+        ensures history { ∥ ((halves : List ℕ) × Measures self.old halves) ∥₁ }
+        // If a list has the old statistics, the list with this half-bit at its end has the new
+        // statistics, and no more outcomes.
+        ensures measures { IsTrue result → (halves : List ℕ) → Measures self.old halves
+            → Measures self.new (halves ++ us ∷ []) }
+        ensures sees { IsTrue result → (halves : List ℕ) → Measures self.old halves
+            → seen (halves ++ us ∷ []) ≡ seen halves }
+        ensures count { IsTrue result → self.new.halves ≡ self.old.halves + 1 }
+        ensures left { result ≡ false → self.new ≡ self.old }
+        ensures shows { result ≡ false → (halves : List ℕ) → StandsFor (kept_rest self.old.framer) halves
+            → seen (halves ++ us ∷ []) ≢ seen halves }
+    {
+        if !self.framer.pass(us) {
+            return false;
+        }
+        count_half(
+            &mut self.halves,
+            &mut self.time,
+            &mut self.classes,
+            &mut self.recent,
+            us,
+        );
+        true
+    }
+
+    /// Appends a half-bit of `us` microseconds that has an outcome: a half-bit for which
+    /// [`pass`](Self::pass) returned false. Returns this outcome. The longer list must have fewer than
+    /// 2^32 half-bits.
+    #[inline(always)]
+    pub fn push_shown(&mut self, us: u16) -> Seen
+        requires room { self.old.halves + 1 < 2 ^ 32 }
+        requires shows { (halves : List ℕ) → StandsFor (kept_rest self.old.framer) halves
+            → seen (halves ++ us ∷ []) ≢ seen halves }
+        // Some list has the old statistics.
+        ensures history { ∥ ((halves : List ℕ) × Measures self.old halves) ∥₁ }
+        // If a list has the old statistics, the list with this half-bit at its end has the new
+        // statistics.
+        ensures measures { (halves : List ℕ) → Measures self.old halves → Measures self.new (halves ++ us ∷ []) }
+        // The result is the outcome of the last half-bit of the longer list.
+        ensures sees { (halves : List ℕ) → Measures self.old halves
+            → seen (halves ++ us ∷ []) ≡ seen halves ++ report_at (length halves) result }
+        ensures something { result ≢ Seen.Nothing }
+        ensures count { self.new.halves ≡ self.old.halves + 1 }
+    {
+        let seen = push_apart(&mut self.framer, us);
+        count_half(
+            &mut self.halves,
+            &mut self.time,
+            &mut self.classes,
+            &mut self.recent,
+            us,
+        );
         self.outcomes.add(&seen);
         self.packets.add(&seen, self.time, &self.recent);
         seen
@@ -220,7 +281,37 @@ impl Timings {
     }
 }
 
-ghost use Rattle.std.specs.Prelude.{◌≡◌, [], ◌∷◌, ◌++◌, length};
+ghost use Rattle.std.specs.Prelude.{◌≡◌, ◌<◌, ◌+◌, ◌^◌, [], ◌∷◌, ◌++◌};
+ghost use Rattle.dcc_timing.specs.Classes.{AreClasses};
+ghost use Rattle.dcc_timing.specs.Numbers.{keep_last};
+
+/// Appends a half-bit of `us` microseconds to a list, whatever its outcome is. The list has `halves`
+/// half-bits, the duration `time` and the statistics `classes`, and ends with `recent`.
+#[inline(always)]
+fn count_half(
+    halves: &mut u32,
+    time: &mut u64,
+    classes: &mut Classes,
+    recent: &mut LastNumbers,
+    us: u16,
+)
+    requires few { halves.old + 1 < 2 ^ 32 }
+    requires short { time.old ≤ 65535 * halves.old }
+    requires room { classes_count classes.old + 1 < 2 ^ 40 }
+    ensures halves { halves.new ≡ halves.old + 1 }
+    ensures time { time.new ≡ time.old + us }
+    ensures classes { (durations : List ℕ) → AreClasses classes.old durations
+        → AreClasses classes.new (durations ++ us ∷ []) }
+    ensures class_count { classes_count classes.new ≡ classes_count classes.old + 1 }
+    ensures recent { recent_numbers recent.new ≡ keep_last 130 (recent_numbers recent.old ++ us ∷ []) }
+{
+    recent.push(us);
+    *halves += 1;
+    *time += u64::from(us);
+    classes.add(us, 1);
+}
+
+ghost use Rattle.std.specs.Prelude.{length};
 ghost use Rattle.dcc_wire.specs.Framing.{StandsFor, seen, report_at};
 
 /// Takes a half-bit of `us` microseconds, with the contract of `KeptFramer::push`. Only few

@@ -87,10 +87,17 @@ sent_once_more : (s : sending.Sending) (p : Packet) (rest after : List Packet) �
     → SpellsFrames (sending.sent_once_more s p rest after)
 sent_once_more s p rest after is more waiting entries = go (nat_le (sending.copies s.repeats p) (s.sent + 1))
   where
-    go : (done : Bool) → SpellsFrames (if done then record s { waiting = rest; sent = 0; entries = after }
+    go : (done : Bool)
+        → SpellsFrames (if done then record s { waiting = rest; stopping = false; sent = 0; entries = after }
         else record s { sent = s.sent + 1; entries = after })
     go true = record { waiting = more; entries = entries }
     go false = record { waiting = waiting; entries = entries }
+
+-- the stop is spelled, and so are the commands that wait
+all_outgoing : (stopping : Bool) (waiting : List Packet) → AllByRecursion IsSpelled waiting
+    → AllByRecursion IsSpelled (sending.with_stop stopping waiting)
+all_outgoing true waiting all = (spellings_are_frames sending.stop_packet tt, all)
+all_outgoing false waiting all = all
 
 -- what a station hands out is spelled, and so is what it then has
 handed_out : (waiting entries : List Packet) (s : sending.Sending) (out : Packet) (new : sending.Sending)
@@ -187,7 +194,8 @@ answered how s (Command frame ∷ items) text new spells asks answers =
     })
 answered how s (Next ∷ items) text new spells asks answers =
     let next = answers.4 in
-    let out = handed_out s.waiting s.entries s next.0 answers.0 spells.waiting spells.entries spells next.1 in
+    let out = handed_out (sending.outgoing s) s.entries s next.0 answers.0
+    (all_outgoing s.stopping s.waiting spells.waiting) spells.entries spells next.1 in
     let later = answered how answers.0 items answers.2 new out.1 asks.1 answers.5 in
     subst (λ (text : List ℕ). Handed how s (Next ∷ items) text new)
     (ap (λ (first : List ℕ). first ++ answers.2) (sym next.2) ∙ sym answers.3)

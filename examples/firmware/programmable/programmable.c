@@ -1,13 +1,16 @@
 /* A locomotive decoder that its user programs on a programming track. The decoder hears the main track and the
- * programming track. Its CVs are in memory that lasts, for example in EEPROM: here in the array `stored`. Your decoder
- * draws the current of the acknowledgement and drives its motor. This program prints the effect. */
+ * programming track. Its CVs are in memory that lasts, for example in flash: the functions load_cvs and store_cvs of
+ * the board. The board draws the current of the acknowledgement. Your decoder drives its motor and its lamps. This
+ * program prints the effect. */
 #include "board.h"
 #include "dcc.h"
 #include <stdatomic.h>
 
 static dcc_framer framer;
 static dcc_decoder decoder;
-static uint8_t stored[DCC_CVS] = {[0] = 3, [28] = 2};
+
+/* The microseconds of an acknowledgement (NMRA S-9.2.3), and of the time without a packet that ends service mode. */
+enum { ACKNOWLEDGEMENT = 6000, SERVICE = 20000 };
 
 /* The packet that was found, and the time of its last edge. The interrupt writes both if no packet waits, and the main
  * loop reads them if one waits. */
@@ -35,9 +38,25 @@ static void show_with(const char *name, uint32_t number, const char *end) {
 }
 
 static void store(uint16_t cv) {
-    stored[cv - 1] = decoder.loco.cvs[cv - 1];
+    store_cvs(decoder.loco.cvs, DCC_CVS);
     show_with("CV", cv, " is ");
-    show_with("", stored[cv - 1], "\n");
+    show_with("", decoder.loco.cvs[cv - 1], "\n");
+}
+
+static bool is_drawing;
+static uint32_t drawn_since;
+
+static void acknowledge(void) {
+    show("acknowledged\n");
+    draw_current(true);
+    is_drawing = true;
+    drawn_since = edge;
+}
+
+static void end_acknowledgement(void) {
+    if (!is_drawing || edge - drawn_since < ACKNOWLEDGEMENT) return;
+    draw_current(false);
+    is_drawing = false;
 }
 
 /* Prints the speed and the direction if they changed since the last call. */
@@ -56,6 +75,19 @@ static void show_speed(void) {
     show(forward ? ", forward\n" : ", reverse\n");
 }
 
+/* Prints the functions if they changed since the last call. */
+static void show_functions(void) {
+    static uint64_t shown[2];
+    const uint64_t *functions = decoder.loco.functions;
+    if (functions[0] == shown[0] && functions[1] == shown[1]) return;
+    shown[0] = functions[0], shown[1] = functions[1];
+    show("functions:");
+    for (uint32_t n = 0; n <= 68; n++) {
+        if (functions[n / 64] >> (n % 64) & 1) show_with(" F", n, "");
+    }
+    show("\n");
+}
+
 /* Prints the address if it changed since the last call. */
 static void show_address(void) {
     static uint16_t shown;
@@ -66,27 +98,33 @@ static void show_address(void) {
 static void hear(const dcc_frame *frame) {
     dcc_answer answer;
     if (dcc_decoder_hear(&decoder, frame->bytes, frame->len, &answer)) return;
-    if (answer.acknowledged) show("acknowledged\n");
+    if (answer.acknowledged) acknowledge();
     if (answer.changed) store(answer.changed);
     show_address();
     show_speed();
+    show_functions();
 }
 
 /* Service mode ends if no packet of service mode comes for 20 milliseconds. */
 static void end_service(uint32_t last) {
-    if (!decoder.service.in_service || edge - last <= 20000) return;
+    if (!decoder.service.in_service || edge - last <= SERVICE) return;
     dcc_decoder_end_service(&decoder);
     show_address();
     show_speed();
+    show_functions();
 }
 
 int main(void) {
     uint32_t last = 0;
-    for (uint16_t cv = 1; cv <= DCC_CVS; cv++) decoder.loco.cvs[cv - 1] = stored[cv - 1];
+    if (!load_cvs(decoder.loco.cvs, DCC_CVS)) {
+        decoder.loco.cvs[0] = 3;
+        decoder.loco.cvs[28] = 2;
+    }
     dcc_decoder_power_up(&decoder);
     show_address();
     while (wait_for_interrupt()) {
         end_service(last);
+        end_acknowledgement();
         if (!waits) continue;
         hear(&found);
         last = found_at;

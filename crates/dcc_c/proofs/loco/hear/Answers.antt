@@ -19,7 +19,7 @@ returns-in-None c =
       p.1,
       no_loco_applied p.0 c.args.loco.now _ other
           (ap (λ (f : DccFrame).
-          record c.args.loco.now { registers = record c.args.loco.now.registers { pending = f } }) c.of-loco.ensures),
+          record c.args.loco.now { registers = record c.args.loco.now.registers { pending = f } }) c.none-loco.ensures),
     )
 
 pub obey-requires-clause-spelled : goal.obey-requires-clause-spelled

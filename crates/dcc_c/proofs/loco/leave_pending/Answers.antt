@@ -6,10 +6,10 @@ use Rattle.dcc_c.proofs.loco.leave_pending.Goals as goal
 
 pub returns-then-is_own_write-clause-pending : goal.returns-then-is_own_write-clause-pending
 returns-then-is_own_write-clause-pending c =
-    c.of_frame.ensures ∙ ap frame_numbers (sym c.requires.spelled)
+    c.of.ensures ∙ ap frame_numbers (sym c.requires.spelled)
     ∙ sym (ap pending_numbers (left_own c.args.packet.now (sym c.is_own_write.ensures.own ∙ c.if-is_own_write.true)))
 
 pub returns-else-is_own_write-clause-pending : goal.returns-else-is_own_write-clause-pending
 returns-else-is_own_write-clause-pending c =
-    c.of.ensures
+    c.none.ensures
     ∙ sym (ap pending_numbers (left_none c.args.packet.now (sym c.is_own_write.ensures.own ∙ c.if-is_own_write.false)))

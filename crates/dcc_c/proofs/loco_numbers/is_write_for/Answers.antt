@@ -12,7 +12,7 @@ returns-in-Ok-clause-found c packet possible e =
     let parts = pending_parts c.args.own.now packet possible in
     let bytes = sym (c.as_slice-bytes.ensures ∙ ap bytes_of e ∙ bytes_back (spelling packet)) in
     of_three _ _ _ (c.loco_hears_frame.ensures packet bytes ∙ parts.2) (c.is_write.ensures.own packet bytes ∙ parts.0)
-    (c.is.ensures.1 (e ∙ ap frame_numbers bytes ∙ sym c.of_frame.ensures))
+    (c.is.ensures.1 (e ∙ ap frame_numbers bytes ∙ sym c.of.ensures))
 
 pub returns-in-Ok-clause-pending : goal.returns-in-Ok-clause-pending
 returns-in-Ok-clause-pending c true =
@@ -21,7 +21,7 @@ returns-in-Ok-clause-pending c true =
       p.0,
       pending_of c.args.own.now p.0 (sym (c.is_write.ensures.own p.0 p.1) ∙ all.1) (c.is_write.ensures.byte p.0 p.1)
           (sym (c.loco_hears_frame.ensures p.0 p.1) ∙ all.0),
-      c.is.ensures.0 all.2 ∙ c.of_frame.ensures ∙ ap frame_numbers (sym p.1),
+      c.is.ensures.0 all.2 ∙ c.of.ensures ∙ ap frame_numbers (sym p.1),
     )
 
 pub returns-in-Err-clause-found : goal.returns-in-Err-clause-found

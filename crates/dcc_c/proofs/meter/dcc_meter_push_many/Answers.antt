@@ -2,20 +2,8 @@ use Rattle.std.proofs.Common.{◌≡◌, ◌<◌, ◌+◌, ◌++◌, ◌∷◌, 
 use Rattle.std.proofs.Common.{◌∙◌, ap, arith, append_assoc, append-nil, length-append}
 use Rattle.std.proofs.lemmas.List.{length-take-le, take_all, take_more}
 use Rattle.dcc_lost.specs.MeasuresTrack.{MeasuresTrack}
+use Rattle.dcc_c.proofs.ArrayLemmas.{length_before, one_more}
 use Rattle.dcc_c.proofs.meter.dcc_meter_push_many.Goals as goal
-
--- one more half-bit of an array
-one_more : (track halves : List ℕ) (at : ℕ) → at < length halves
-    → (track ++ take at halves) ++ slice_index_or halves at 0 ∷ [] ≡ track ++ take (at + 1) halves
-one_more track halves at inside =
-    append_assoc track (take at halves) (slice_index_or halves at 0 ∷ [])
-    ∙ ap (λ l. track ++ l) (sym (take_more halves at 0 inside))
-
--- the number of half-bits before it
-length_before : (track halves : List ℕ) (at : ℕ) → at < length halves → length (track ++ take at halves)
-    ≡ length track + at
-length_before track halves at inside =
-    omega (arith, length-append track (take at halves), length-take-le at halves (omega (arith, inside)))
 
 pub halves-init : goal.halves-init
 halves-init c = record {

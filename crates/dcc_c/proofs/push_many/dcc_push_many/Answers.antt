@@ -4,20 +4,8 @@ use Rattle.std.proofs.lemmas.List.{take_more, length-take-le}
 use Rattle.dcc_wire.specs.declared.seen.Seen.{Seen}
 use Rattle.dcc_wire.specs.declared.seen.Seen.TheVariants.{Nothing}
 use Rattle.dcc_wire.specs.Framing.{StandsFor, seen, report_at}
+use Rattle.dcc_c.proofs.ArrayLemmas.{last_place, one_more}
 use Rattle.dcc_c.proofs.push_many.dcc_push_many.Goals as goal
-
--- one more half-bit of an array
-one_more : (track halves : List ℕ) (at : ℕ) → at < length halves
-    → (track ++ take at halves) ++ slice_index_or halves at 0 ∷ [] ≡ track ++ take (at + 1) halves
-one_more track halves at inside =
-    append_assoc track (take at halves) (slice_index_or halves at 0 ∷ [])
-    ∙ ap (λ l. track ++ l) (sym (take_more halves at 0 inside))
-
--- the place of the last of these half-bits
-last_place : (track halves : List ℕ) (at : ℕ) → at < length halves
-    → length (track ++ take at halves) ≡ length track + (at + 1) - 1
-last_place track halves at inside =
-    omega (arith, length-append track (take at halves), length-take-le at halves (omega (arith, inside)))
 
 -- a half-bit without an outcome adds nothing to a list of outcomes
 unreported : (place : ℕ) (outcome : Seen) (l : List (ℕ × Seen)) → outcome ≡ Nothing → l ++ report_at place outcome ≡ l

@@ -1,4 +1,5 @@
-use Rattle.std.proofs.Common.{ap, ◌∙◌, refl, subst}
+use Rattle.std.proofs.Common.{ap, ◌∙◌, refl, subst, List, ℕ}
+use Rattle.dcc_wire.specs.Frames.{with_error_byte}
 use Rattle.dcc_service.specs.CvAnswers.{Asks, CvAnswers}
 use Rattle.dcc_c.specs.Frames.{frame_numbers}
 use Rattle.dcc_c.proofs.ApplyLemmas.{same_some}
@@ -11,6 +12,6 @@ returns-in-Some-clause-asks c so_far is =
       c.question.result,
       subst (λ (asked : CvAnswers). Asks asked c.question.result) same c.question.ensures.question,
       refl,
-      c.of.ensures
-          ∙ ap frame_numbers (c.bytes.ensures.value ∙ c.frame.ensures),
+      c.of_three.ensures
+          ∙ ap (λ (bytes : List ℕ). frame_numbers (with_error_byte bytes)) c.bytes.ensures,
     )

@@ -14,7 +14,7 @@ returns-in-Some-clause-steps c ok before e =
       ap (λ (p : DccSmallService). record c.args.service.now { progress = p; cvs = c.apply.new.cvs })
           (c.put.ensures c.apply.new.cvs),
       refl,
-      stepped before _ _ _ _ _ was c.in-Ok.ensures.0 c.apply.ensures,
+      stepped before _ _ _ _ _ was c.in-Ok.ensures.valid.1 c.apply.ensures,
     )
 
 pub returns-in-Some-clause-decoder : goal.returns-in-Some-clause-decoder

@@ -1,12 +1,14 @@
-use Rattle.std.proofs.Common.{ℕ, ◌*◌, ◌-◌, ◌<◌, ◌≡◌, ◌⊎◌, ◌∷◌, [], length}
+use Rattle.std.proofs.Common.{ℕ, ◌*◌, ◌-◌, ◌<◌, ◌≡◌, ◌⊎◌, ◌∷◌, [], length, false}
 use Rattle.dcc_packet.specs.declared.packet.Packet.{Packet}
 use Rattle.dcc_station.specs.Refresh.{HasHeardStation}
 use Rattle.dcc_station.specs.Sending.{Sending, copies}
 use Rattle.dcc_examples.proofs.refreshed.send_one.Given as goal
 
--- nothing waits, or only this command, of which a copy is still to be sent
+-- no stop waits, and nothing waits, or only this command, of which a copy is still to be sent
 abbrev pub IsSending : Sending → Packet → Type 0
-IsSending s p = (s.waiting ≡ []) ⊎ ((s.waiting ≡ p ∷ []) × (s.sent < copies s.repeats p) × (s.repeats ≡ 2))
+IsSending s p =
+    (s.stopping ≡ false)
+    × ((s.waiting ≡ []) ⊎ ((s.waiting ≡ p ∷ []) × (s.sent < copies s.repeats p) × (s.repeats ≡ 2)))
 
 abbrev pub invariant-copies : goal.invariant-copies
 invariant-copies g l = record {

@@ -13,4 +13,4 @@ returns-then-self-eq0 c = (
 )
 
 pub returns : goal.returns
-returns c = subst (λ (f : DccFrame). Decides c.is.result (c.args.self.now ≡ f)) c.of_frame.ensures c.is.ensures
+returns c = subst (λ (f : DccFrame). Decides c.is.result (c.args.self.now ≡ f)) c.of.ensures c.is.ensures

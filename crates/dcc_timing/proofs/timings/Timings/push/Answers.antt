@@ -1,65 +1,20 @@
-use Rattle.std.proofs.Common.{◌≡◌, ◌+◌, ◌-◌, ◌*◌, ◌++◌, ◌∷◌, [], List, ℕ, ap, arith, length, subst, sum, sym, ◌∙◌}
-use Rattle.std.proofs.Math.Logic.{∥∥₁_map}
-use Rattle.dcc_wire.specs.declared.seen.Seen.{Seen}
+use Rattle.std.proofs.Common.{◌≡◌, IsTrue, false, append-nil, arith, subst, sym, ◌∙◌}
 use Rattle.dcc_wire.specs.Framing.{report_at, seen}
-use Rattle.dcc_wire.specs.Kept.{kept_rest}
-use Rattle.dcc_timing.specs.Outcomes.{AreOutcomes}
-use Rattle.dcc_timing.specs.PacketBits.{AreBits, packet_bits_in}
-use Rattle.dcc_timing.specs.Gaps.{ends_in}
-use Rattle.dcc_timing.specs.KeptGaps.{AreGaps}
-use Rattle.dcc_timing.proofs.MeasureLemmas.{Shows, bits_run, ends_run, length_run, sum_run}
-use Rattle.dcc_timing.proofs.RecentLemmas.{half_behind}
-use Rattle.dcc_timing.specs.Measured.{AreMeasured}
 use Rattle.dcc_timing.specs.Measures.{Measures}
-use Rattle.dcc_timing.specs.Recent.{recent_numbers}
-use Rattle.dcc_timing.proofs.timings.Timings.push.Goals.{After-add-3}
 use Rattle.dcc_timing.proofs.timings.Timings.push.Goals as goal
 
--- the list with this half-bit at its end is measured, for each list that was
-measured : (c : After-add-3) (halves : List ℕ) → Measures c.args.self.now halves
-    → AreMeasured (c.args.self.now.halves + 1) (c.args.self.now.time + c.from.result)
-    c.add.new.self c.add-2.new.self c.add-3.new.self (kept_rest c.push_framer-seen.new.framer)
-    (recent_numbers c.push.new.self)
-    (halves ++ c.args.us ∷ [])
-measured c halves are =
-    let us = c.args.us in
-    let shown = c.push_framer-seen.result in
-    let sees = c.push_framer-seen.ensures.sees halves are.framer in
-    let shows : Shows halves (us ∷ []) (length halves + 1 - 1) shown =
-    sees ∙ ap (λ n. seen halves ++ report_at n shown) (omega arith) in
-    let recent = half_behind halves us (recent_numbers c.args.self.now.recent) (recent_numbers c.push.new.self)
-    are.recent c.push.ensures in
-    let time : c.args.self.now.time + c.from.result ≡ sum halves + 1 * us =
-    omega (arith, are.time, c.from.ensures) in
-    record {
-      count = ap (λ k. k + 1) are.count ∙ sym (length_run halves 1 us);
-      time = time ∙ sym (sum_run halves 1 us);
-      classes = c.add.ensures.classes halves are.classes;
-      outcomes = subst (λ (l : List (ℕ × Seen)). AreOutcomes c.add-2.new.self l) (sym sees)
-          (c.add-2.ensures.outcomes (seen halves) (length halves) are.outcomes);
-      bits = subst (λ (l : List (ℕ × ℕ)). AreBits c.add-3.new.self.bits l)
-          (sym (bits_run halves us 1 1 shown (omega arith) (omega arith) shows (recent_numbers c.push.new.self) recent
-          c.add-3.ensures.few))
-          (c.add-3.ensures.bits (packet_bits_in halves) are.bits);
-      gaps = subst (λ (l : List ℕ). AreGaps c.add-3.new.self.gaps l)
-          (sym (ends_run halves us 1 1 shown (omega arith) (omega arith) shows _ time))
-          (c.add-3.ensures.gaps (ends_in halves) are.gaps);
-      framer = c.push_framer-seen.ensures.stands halves are.framer;
-      recent = recent;
-    }
+pub returns-then-pass-clause-measures : goal.returns-then-pass-clause-measures
+returns-then-pass-clause-measures c =
+    let yes : IsTrue c.pass.result = grind arith in
+    c.pass.ensures.measures yes
 
-pub invariant_of-self-clause-history : goal.invariant_of-self-clause-history
-invariant_of-self-clause-history c =
-    ∥∥₁_map c.args.self.now.history (λ list. (
-      list.0 ++ c.args.us ∷ [],
-      measured (goal.at.invariant_of-self-clause-history c).After-add-3 list.0 list.1,
-    ))
-
-pub returns-clause-history : goal.returns-clause-history
-returns-clause-history c = c.args.self.now.history
-
-pub returns-clause-sees : goal.returns-clause-sees
-returns-clause-sees c = λ halves are. c.push_framer-seen.ensures.sees halves are.framer
+pub returns-then-pass-clause-sees : goal.returns-then-pass-clause-sees
+unfolding report_at
+returns-then-pass-clause-sees c = λ halves are.
+    let yes : IsTrue c.pass.result = grind arith in
+    c.pass.ensures.sees yes halves are ∙ sym (append-nil (seen halves))
 
 pub returns-clause-measures : goal.returns-clause-measures
-returns-clause-measures c = measured (goal.at.returns-clause-measures c).After-add-3
+returns-clause-measures c = λ halves are.
+    let no : c.pass.result ≡ false = grind arith in
+    c.push_shown.ensures.measures halves (subst (λ timings. Measures timings halves) (sym (c.pass.ensures.left no)) are)

@@ -1,6 +1,6 @@
 use Rattle.std.proofs.Common.{ap, List, ℕ, length}
 use Rattle.dcc_c.proofs.FrameLemmas.{six_bytes}
-use Rattle.dcc_c.proofs.frame.DccFrame.of_frame.Goals as goal
+use Rattle.dcc_c.proofs.frame.DccFrame.of.Goals as goal
 
 pub returns : goal.returns
 returns c =
