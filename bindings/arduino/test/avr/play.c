@@ -11,6 +11,7 @@
  * milliseconds ends the run 300 ms after its last edge. The status is 1 if the program crashes or a file fails. */
 #include <simavr/avr_eeprom.h>
 #include <simavr/avr_ioport.h>
+#include <simavr/avr_timer.h>
 #include <simavr/avr_uart.h>
 #include <simavr/sim_avr.h>
 #include <simavr/sim_cycle_timers.h>
@@ -20,7 +21,8 @@
 #include <string.h>
 #include <unistd.h>
 
-enum { PER_US = 16, BYTE = 1400 }; /* cycles of a microsecond, and of a byte at 115,200 baud with a little rest */
+/* cycles of a microsecond, of a byte at 115,200 baud with a little rest, and of a tick of the timer that notes edges */
+enum { PER_US = 16, BYTE = 1400, TICK = 8 };
 static avr_t *avr;
 static FILE *track, *sent, *typed;
 static const char *eeprom;
@@ -28,18 +30,31 @@ static avr_irq_t *track_pin, *serial;
 static unsigned long long end, exact, last_change;
 static int level, changes;
 static uint32_t sent_level;
-static const char *sent_pin;
+static const char *sent_pin, *played_pin;
 
 static void die(const char *text) {
     fprintf(stderr, "play: %s\n", text);
     exit(1);
 }
 
+/* Moves the first edge to a tick of the timer that notes the edges of pin B0 or L0. The first tick depends on the
+ * program. The simulator notes an edge after the instruction that runs, up to 4 cycles late. After a tick begins, such a
+ * delay changes no time that the timer notes. */
+static void move_to_tick(void) {
+    char name = !strncmp(played_pin, "B0", 2) ? '1' : !strncmp(played_pin, "L0", 2) ? '4' : 0;
+    for (avr_io_t *io = avr->io_port; io; io = io->next) {
+        avr_timer_t *timer = (avr_timer_t *)io;
+        if (io->kind && !strcmp(io->kind, "timer") && timer->name == name) exact += (timer->tov_base - exact) % TICK;
+    }
+}
+
 /* Changes the level of the track, and waits for the next duration. The sum of durations gives each time, so no rounding
  * adds up. */
 static avr_cycle_count_t on_edge(avr_t *of, avr_cycle_count_t when, void *param) {
+    static int begun;
     unsigned long us;
     (void)of, (void)param;
+    if (!begun++) move_to_tick();
     if (when >= exact) {
         level = !level;
         avr_raise_irq(track_pin, level);
@@ -124,6 +139,7 @@ int main(int argc, char **argv) {
         const char *word = argv[i + 1];
         switch (argv[i][1]) {
         case 't':
+            played_pin = word;
             track_pin = pin_of(word);
             if (!(track = fopen(word + 3, "r"))) die("no track");
             avr_raise_irq(track_pin, 0);
