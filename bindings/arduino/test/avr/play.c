@@ -21,8 +21,8 @@
 #include <string.h>
 #include <unistd.h>
 
-/* cycles of a microsecond, of a byte at 115,200 baud with a little rest, and of a tick of the timer that notes edges */
-enum { PER_US = 16, BYTE = 1400, TICK = 8 };
+/* cycles of a microsecond, of a byte at 115,200 baud with a little rest, and of four ticks of the timer of edges */
+enum { PER_US = 16, BYTE = 1400, TICKS = 32 };
 static avr_t *avr;
 static FILE *track, *sent, *typed;
 static const char *eeprom;
@@ -37,14 +37,16 @@ static void die(const char *text) {
     exit(1);
 }
 
-/* Moves the first edge to a tick of the timer that notes the edges of pin B0 or L0. The first tick depends on the
- * program. The simulator notes an edge after the instruction that runs, up to 4 cycles late. After a tick begins, such a
- * delay changes no time that the timer notes. */
+/* Moves the first edge one cycle behind a tick of the timer that notes the edges of pin B0 or L0. The first tick
+ * depends on the program. The simulator notes an edge after the instruction that runs, up to 4 cycles late. So early in
+ * a tick such a delay changes no time that the timer notes. If all durations are even, as in the tracks of the tests,
+ * some edges come one cycle after an overflow of the timer. */
 static void move_to_tick(void) {
     char name = !strncmp(played_pin, "B0", 2) ? '1' : !strncmp(played_pin, "L0", 2) ? '4' : 0;
     for (avr_io_t *io = avr->io_port; io; io = io->next) {
         avr_timer_t *timer = (avr_timer_t *)io;
-        if (io->kind && !strcmp(io->kind, "timer") && timer->name == name) exact += (timer->tov_base - exact) % TICK;
+        int is_timer = io->kind && !strcmp(io->kind, "timer") && timer->name == name;
+        if (is_timer) exact += (timer->tov_base - exact) % TICKS + 1;
     }
 }
 
