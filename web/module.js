@@ -102,7 +102,7 @@ class Dcc {
     return this.frameAt(this.frame, bytes.length);
   }
 
-  /** Returns the outcomes of half-bits as packOutcomes does. */
+  /** Returns the outcomes of half-bits as the arrays of PackedOutcomes. */
   outcomes(halves, tell = () => {}) {
     const { dcc_framer_new: begin, dcc_push_many: push, memory } = this.calls;
     const { placeOf } = this;
@@ -110,7 +110,8 @@ class Dcc {
     const room = new Uint16Array(memory.buffer, this.halves, HALVES_EACH);
     const counted = new Uint32Array(memory.buffer, this.taken, 1);
     const view = new DataView(memory.buffer, this.outcome, OUTCOME_BYTES);
-    const [ats, times, refusals, numbers, frames, places] = [[], [], [], [], [], new Map()];
+    const packed = new PackedOutcomes();
+    const frame = () => [...this.bytesAt(this.outcome + 6, view.getUint8(5))];
     let time = 0;
     begin(framer);
     for (let from = 0; from < halves.count; from += HALVES_EACH) {
@@ -120,22 +121,11 @@ class Dcc {
         const isEnd = push(framer, placeOf(this.halves + 2 * at), BigInt(part.length - at), outcome, taken);
         for (const end = at + counted[0]; at < end; at += 1) time += room[at];
         if (!isEnd) continue;
-        const [place, n] = [this.outcome + 6, view.getUint8(5)];
-        const frame = this.numberAt(place, n);
-        let number = places.get(frame);
-        if (number === undefined) {
-          number = frames.push([...this.bytesAt(place, n)]) - 1;
-          places.set(frame, number);
-        }
-        ats.push(from + at);
-        times.push(time);
-        refusals.push(view.getUint8(4));
-        numbers.push(number);
+        packed.add(from + at, time, view.getUint8(4), this.numberAt(this.outcome + 6, view.getUint8(5)), frame);
       }
       if (from % TOLD_EACH < HALVES_EACH) tell((from + part.length) / halves.count);
     }
-    const [at, frame] = [ats, numbers].map((it) => new Uint32Array(it));
-    return { at, time: new Float64Array(times), refusal: new Uint8Array(refusals), frame, frames };
+    return packed.arrays();
   }
 
   /** Returns the lost packets in half-bits: the number of the last half-bit, from 1, its end in microseconds, the

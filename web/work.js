@@ -22,18 +22,36 @@ const bytesOf = async (input, tell = () => {}) => {
   return bytes;
 };
 
-/** Returns outcomes as a few arrays, which go from a worker to the page and back: the number of the last half-bit, from
- * 1, its end in microseconds, the refusal or 0, and the number of the frame. Equal frames have one number. */
+/** Outcomes as a few arrays, which go from a worker to the page and back: the number of the last half-bit, from 1, its
+ * end in microseconds, the refusal or 0, and the number of the frame. Equal frames have one number. */
+class PackedOutcomes {
+  constructor() {
+    Object.assign(this, { at: [], time: [], refusal: [], frame: [], frames: [], known: new Map() });
+  }
+
+  /** Adds an outcome. The key names its frame, and equal frames have one key. `bytesOf` returns the frame. */
+  add(at, time, refusal, key, bytesOf) {
+    let number = this.known.get(key);
+    if (number === undefined) {
+      number = this.frames.push(bytesOf()) - 1;
+      this.known.set(key, number);
+    }
+    this.at.push(at);
+    this.time.push(time);
+    this.refusal.push(refusal);
+    this.frame.push(number);
+  }
+
+  arrays() {
+    const [at, frame] = [new Uint32Array(this.at), new Uint32Array(this.frame)];
+    return { at, time: new Float64Array(this.time), refusal: new Uint8Array(this.refusal), frame, frames: this.frames };
+  }
+}
+
 const packOutcomes = (outcomes) => {
-  const n = outcomes.length;
-  const [at, time] = [new Uint32Array(n), new Float64Array(n)];
-  const packed = { at, time, refusal: new Uint8Array(n), frame: new Uint32Array(n), frames: [] };
-  const known = new Map();
-  outcomes.forEach((it, i) => {
-    if (!known.has(it.bytes)) known.set(it.bytes, packed.frames.push(it.bytes) - 1);
-    [at[i], time[i], packed.refusal[i], packed.frame[i]] = [it.at, it.time, it.refusal, known.get(it.bytes)];
-  });
-  return packed;
+  const packed = new PackedOutcomes();
+  for (const { at, time, refusal, bytes } of outcomes) packed.add(at, time, refusal, bytes, () => bytes);
+  return packed.arrays();
 };
 
 const unpackOutcomes = (dcc, { at, time, refusal, frame, frames }) => {
