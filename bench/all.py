@@ -1,5 +1,5 @@
 #!/usr/bin/env python3
-"""Times commands of `dcc` on each form of capture beside `wc -w` on the same file, and prints a table.
+"""Times commands of `dcc` on each form of capture beside `wc -w` on the same file, and prints tables.
 
     bench/all.py [--instructions] [PROGRAM [OTHER]]
 
@@ -11,10 +11,16 @@ variables HALVES, LINES and ROUNDS set the half-bits of a capture, the packet li
 
 With --instructions the script counts instructions by callgrind of valgrind, on inputs a fortieth as long. The number of
 instructions is the same in each run.
+
+The second table compares `show` with two programs in C, which `cc -O2` compiles: plain C (bench/show_plain.c), and a
+limit that uses vectors (bench/show_limit.c), if the processor has AVX2 and BMI2. They read only words of two and three
+digits, so the table has the captures of such words. All three programs must write the same bytes. After the table the
+script prints the ratio of `timing` to `show`, and the ratio of CR LF to LF at one half-bit a line.
 """
 import os
 import re
 import resource
+import shutil
 import statistics
 import subprocess
 import sys
@@ -73,6 +79,69 @@ def instructions(words, path):
             counted, stdin=file, stdout=subprocess.DEVNULL, stderr=subprocess.PIPE, text=True, check=False
         )
     return int(re.search(r"Collected *: *(\d+)", ran.stderr)[1]) / 1e6
+
+
+def built_in_c(room):
+    """The programs in C that do the work of `show`, by name."""
+    with open("/proc/cpuinfo", encoding="ascii") as file:
+        flags = set(re.search(r"(?m)^flags\s*:(.*)$", file.read())[1].split())
+    sources = {"plain C": ("show_plain", []), "limit": ("show_limit", ["-mavx2", "-mbmi2", "-mpopcnt"])}
+    if not flags >= {"avx2", "bmi2"}:
+        print("the limit is left out: this processor has no AVX2 or no BMI2")
+        del sources["limit"]
+    if not shutil.which("cc"):
+        print("plain C and the limit are left out: there is no cc")
+        return {}
+    for name, (source, options) in sources.items():
+        words = ["cc", "-O2", *options, "-o", f"{room}/{source}", f"{os.path.dirname(__file__) or '.'}/{source}.c"]
+        subprocess.run(words, check=True)
+    return {name: [f"{room}/{source}"] for name, (source, _) in sources.items()}
+
+
+def output_of(words, path):
+    with open(path, "rb") as file:
+        return subprocess.run(words, stdin=file, capture_output=True, check=True).stdout
+
+
+def lines_of(path):
+    with open(path, "rb") as file:
+        return file.read().count(b"\n")
+
+
+def beside_c(program, measured, unit, at, room):
+    """Prints `show` beside the programs in C, and the ratios between commands and captures."""
+    programs = {"`dcc`": [program, "show"], **built_in_c(room)}
+    files = {
+        "one packet in each line": "halves",
+        "CR LF line ends": "crlf",
+        "one half-bit in each line": "one",
+        "one half-bit in each line, CR LF": "one_crlf",
+    }
+    times = {}
+    for file in files.values():
+        wanted = output_of(programs["`dcc`"], at(file))
+        for name, words in programs.items():
+            if output_of(words, at(file)) != wanted:
+                sys.exit(f"{name} writes another listing of {file}")
+    for _ in range(ROUNDS):
+        for file in files.values():
+            for name, words in programs.items():
+                times.setdefault((name, file), []).append(measured(words, at(file)))
+        times.setdefault(("timing", "halves"), []).append(measured([program, "timing"], at("halves")))
+
+    def ratio(one, other):
+        return statistics.median(x / y for x, y in zip(times[one], times[other]))
+
+    heads = ["`show`", *programs, *[f"`dcc` to {it}" for it in [*programs][1:]]]
+    print("\n| " + " | ".join(heads) + " |")
+    print("|---" * (2 * len(programs)) + "|")
+    for told, file in files.items():
+        cells = [f"{statistics.median(times[name, file]):.3f} {unit}" for name in programs]
+        cells += [f"{ratio(('`dcc`', file), (name, file)):.2f}" for name in [*programs][1:]]
+        print(f"| {told} | " + " | ".join(cells) + " |")
+    print(f"\n`timing` to `show`: {ratio(('timing', 'halves'), ('`dcc`', 'halves')):.2f}")
+    crlf = ratio(("`dcc`", "one_crlf"), ("`dcc`", "one")) * lines_of(at("one")) / lines_of(at("one_crlf"))
+    print(f"`show` of one half-bit in each line, CR LF to LF: {crlf:.2f} for each half-bit")
 
 
 def main():
@@ -143,6 +212,7 @@ def main():
                 )
             cells += [f"{ratio(name, programs[0], other):.2f}" for other in programs[1:]]
             print(f"| {name} | " + " | ".join(cells) + " |")
+        beside_c(programs[0], measured, unit, at, room)
 
 
 main()

@@ -16,7 +16,8 @@ use Rattle.dcc_service.specs.Machine.{ServiceState, Step}
 use Rattle.dcc_service.specs.Progress.{state_with_cvs as with_service_cvs}
 use Rattle.dcc_c.specs.declared.service.DccService.{DccService}
 use Rattle.dcc_c.specs.Services.{service_numbers}
-use Rattle.dcc_regs.specs.Result.{RegisterMap, left_pending}
+use Rattle.dcc_regs.specs.Result.{RegisterMap}
+use Rattle.dcc_regs.specs.Setting.{left_pending}
 use Rattle.dcc_regs.specs.declared.board_state.BoardState.{BoardState}
 use Rattle.dcc_c.specs.Applied.{HasApplied}
 use Rattle.dcc_c.specs.Boards.{is_single}

@@ -1,6 +1,6 @@
 -- A locomotive decoder that hears a packet.
 use Rattle.std.proofs.Common.{◌≡◌, ℕ, ◌-◌, ◌^◌, ◌<◌, ◌≤◌, Bool, true, false, List, [], length, refl, sym, ◌∙◌, ap}
-use Rattle.std.proofs.Common.{take}
+use Rattle.std.proofs.Common.{take, ◌++◌}
 use Rattle.std.proofs.Common.{arith, inl, inr}
 use Rattle.std.specs.Prelude.{Option, None, Some, IfSome, unwrap_or, if◌then◌else◌}
 use Rattle.std.specs.Bool.{Decides}
@@ -16,7 +16,7 @@ use Rattle.dcc_packet.specs.declared.packet.Packet.{Packet}
 use Rattle.dcc_packet.specs.declared.packet.Packet.TheVariants.{Idle, Loco, Accessory, Signal, Other}
 use Rattle.dcc_packet.specs.Bits.{is_one}
 use Rattle.dcc_packet.specs.Cvs.{cv_in}
-use Rattle.dcc_packet.specs.Rows.{loco_bytes}
+use Rattle.dcc_packet.specs.Rows.{address_bytes, instruction_bytes}
 use Rattle.dcc_packet.specs.Spelling.{BytesFit, ValueFits, spelling}
 use Rattle.dcc_packet.proofs.FrameParts.{frame_parts, same_bytes}
 use Rattle.dcc_packet.proofs.OneSpelling.{one_packet}
@@ -30,13 +30,15 @@ use Rattle.dcc_regs.specs.Heard.{hears}
 use Rattle.dcc_regs.specs.Loco.{is_byte_write, is_speed, writes_byte}
 use Rattle.dcc_regs.specs.LocoState.{is_state, loco_map, loco_state_content, loco_who}
 use Rattle.dcc_regs.specs.LocoRegisters.{registers_in, with_cvs}
-use Rattle.dcc_regs.specs.Result.{is_effective, left_pending, mode_of}
+use Rattle.dcc_regs.specs.Result.{is_effective, mode_of}
+use Rattle.dcc_regs.specs.Setting.{left_pending}
 use Rattle.dcc_regs.specs.Speeds.{direction_set, speed_set}
 use Rattle.dcc_regs.specs.Writes.{bit_set, is_cv_write, is_own_write}
 use Rattle.dcc_regs.proofs.LocoStep.{Obeys, mode_held, pending-heard, step-heard, step-unheard}
 use Rattle.dcc_regs.proofs.PossibleLemmas.{of_parts, parts_of, speed_kept, states_kept}
 use Rattle.dcc_regs.proofs.RegisterStep.{kept-after}
 use Rattle.dcc_regs.proofs.SameWrites.{effective_by}
+use Rattle.dcc_regs.proofs.WritesInParts.{own_is_cv_write}
 use Rattle.dcc_c.specs.declared.frame.DccFrame.{DccFrame}
 use Rattle.dcc_c.specs.declared.loco_numbers.DccLoco.{DccLoco}
 use Rattle.dcc_c.specs.declared.loco_numbers.DccLocoRegisters.{DccLocoRegisters}
@@ -66,8 +68,8 @@ instruction_fits what own byte = absurd (cc)
 own_fits : (p : Packet) → is_own_write p ≡ true → is_byte_write p ≡ true → BytesFit p
 own_fits Idle own byte = tt
 own_fits (Loco Broadcast what) own byte = absurd (cc)
-own_fits (Loco (Short to) what) own byte = instruction_fits what own byte
-own_fits (Loco (Long to) what) own byte = instruction_fits what own byte
+own_fits (Loco (Short to) what) own byte = instruction_fits what (own_is_cv_write (Short to) what own) byte
+own_fits (Loco (Long to) what) own byte = instruction_fits what (own_is_cv_write (Long to) what own) byte
 own_fits (Accessory board output on) own byte = tt
 own_fits (Signal address aspect) own byte = absurd (cc)
 own_fits (Other other) own byte = absurd (cc)
@@ -89,14 +91,15 @@ no_loco_byte p none = refl
 
 -- what `read_loco` says of the packet of a frame
 pub loco_read : (to : Address) (what : What) (frame : List ℕ) → IsFrame frame
-    → loco_bytes to what ≡ take (length frame - 1) frame → spelling (Loco to what) ≡ frame
+    → address_bytes to ++ instruction_bytes what ≡ take (length frame - 1) frame → spelling (Loco to what) ≡ frame
 loco_read to what frame valid e = ap with_error_byte e ∙ sym (frame_parts frame valid)
 
 pub no_loco_read : (p : Packet) (frame : List ℕ) → IsFrame frame → spelling p ≡ frame
-    → ((to : Address) (what : What) → loco_bytes to what ≡ take (length frame - 1) frame → ⊥) → IsNoLoco p
+    → ((to : Address) (what : What) → address_bytes to ++ instruction_bytes what ≡ take (length frame - 1) frame → ⊥)
+    → IsNoLoco p
 no_loco_read p frame valid e none to what is =
     none to what
-    (same_bytes (loco_bytes to what) (take (length frame - 1) frame)
+    (same_bytes (address_bytes to ++ instruction_bytes what) (take (length frame - 1) frame)
     (ap spelling (sym is) ∙ e ∙ frame_parts frame valid))
 
 -- whether a write takes effect is told by the structure of the pending write

@@ -6,7 +6,7 @@ use Rattle.std.specs.Prelude.{◌≢◌}
 use Rattle.dcc_packet.specs.declared.packet.Packet.{Packet}
 use Rattle.dcc_packet.specs.declared.packet.Packet.TheVariants.{Idle, Loco}
 use Rattle.dcc_packet.specs.Spelling.{spelling}
-use Rattle.dcc_packet.specs.Rows.{loco_bytes}
+use Rattle.dcc_packet.specs.Rows.{address_bytes, instruction_bytes}
 use Rattle.dcc_packet.specs.declared.address.Address.{Address}
 use Rattle.dcc_packet.specs.declared.instruction.What.{What}
 use Rattle.dcc_wire.specs.Frames.{IsFrame, with_error_byte}
@@ -27,7 +27,8 @@ spelled_is_kept packet other bytes kept spelled some = one_packet other packet (
 
 -- an instruction to locomotives that stands before the error byte is the packet that is kept
 pub loco_is_kept : (k : Inside) (to : Address) (what : What) → IsKeptPacket k → bytes_of k.frame ≢ []
-    → loco_bytes to what ≡ take (length (bytes_of k.frame) - 1) (bytes_of k.frame) → Loco to what ≡ packet_of k
+    → address_bytes to ++ instruction_bytes what ≡ take (length (bytes_of k.frame) - 1) (bytes_of k.frame)
+    → Loco to what ≡ packet_of k
 loco_is_kept k to what good some is = spelled_is_kept k.says.0 (Loco to what) (bytes_of k.frame) k.says.1 spelled some
   where
     framed : IsFrame (bytes_of k.frame)

@@ -1,10 +1,10 @@
 -- A packet that is stored as the bytes of its frame.
-use Rattle.std.specs.Prelude.{◌≡◌, ℕ, List, [], ◌∷◌, length, refl}
+use Rattle.std.specs.Prelude.{◌≡◌, ℕ, List, [], ◌∷◌, ◌++◌, length, refl}
 use Rattle.std.specs.Coded.{coded_list, coded_ℕ, Coded-set}
 use Rattle.std.proofs.Common.{◌∙◌, sym, ap, subst, arith}
 use Rattle.dcc_packet.specs.declared.packet.Packet.{Packet}
 use Rattle.dcc_packet.specs.declared.packet.Packet.TheVariants.{Idle, Loco, Accessory, Signal, Other}
-use Rattle.dcc_packet.specs.Rows.{loco_bytes, accessory_bytes, signal_bytes}
+use Rattle.dcc_packet.specs.Rows.{address_bytes, instruction_bytes, accessory_bytes, signal_bytes}
 use Rattle.dcc_packet.specs.Spelling.{spelling}
 use Rattle.dcc_wire.specs.Frames.{with_error_byte}
 use Rattle.dcc_packet.proofs.OneSpelling.{one_packet}
@@ -25,7 +25,7 @@ some_behind (byte ∷ bytes) e = cc
 
 pub some_bytes : (packet : Packet) → spelling packet ≡ [] → ⊥
 some_bytes Idle e = cc
-some_bytes (Loco to what) e = some_behind (loco_bytes to what) e
+some_bytes (Loco to what) e = some_behind (address_bytes to ++ instruction_bytes what) e
 some_bytes (Accessory board output on) e = some_behind (accessory_bytes board output on) e
 some_bytes (Signal address aspect) e = some_behind (signal_bytes address aspect) e
 some_bytes (Other other) e = let none : length other.frame

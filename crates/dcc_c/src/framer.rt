@@ -45,7 +45,7 @@ pub extern "C" fn dcc_push(framer: &mut KeptFramer, us: u16, outcome: &mut DccOu
 /// Takes a half-bit that ends an outcome, and returns 1. This function is separate from the code
 /// that runs for each half-bit.
 #[inline(never)]
-fn push_apart(framer: &mut KeptFramer, us: u16, outcome: &mut DccOutcome) -> u8
+pub(crate) fn push_apart(framer: &mut KeptFramer, us: u16, outcome: &mut DccOutcome) -> u8
     requires { (halves : List ℕ) → StandsFor (kept_rest framer.old) halves → seen (halves ++ us ∷ []) ≢ seen halves }
     ensures history { (halves : List ℕ) × StandsFor (kept_rest framer.old) halves }
     ensures stands { (halves : List ℕ) → StandsFor (kept_rest framer.old) halves

@@ -39,18 +39,11 @@ pub extern "C" fn dcc_line(frame: &[u8], line: &mut [u8; 41]) -> u8
 fn put_line(packet: &Packet, line: &mut [u8; 41])
     ensures { line.new ≡ zeros_behind 41 (written_line packet.now) }
 {
-    let text = line_of(packet);
+    let mut text = Line::new();
+    packet.put_line(&mut text);
     let bytes = text.as_str().as_bytes();
     *line = [0; 41];
     line[..bytes.len()].copy_from_slice(bytes);
-}
-
-/// Returns the packet line of a packet. This function is not inlined, so `dcc_line` takes less stack.
-#[inline(never)]
-fn line_of(packet: &Packet) -> Line
-    ensures { result.bytes ≡ written_line packet.now }
-{
-    packet.to_line()
 }
 
 /// Writes the frame of the packet line `line`. Returns 0 on success, otherwise the number of the

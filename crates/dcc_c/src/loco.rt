@@ -11,7 +11,7 @@ ghost use Rattle.dcc_regs.specs.declared.register.Who.{Who};
 ghost use Rattle.dcc_regs.specs.Heard.{hears as is_heard_by};
 ghost use Rattle.dcc_regs.specs.Loco.{is_byte_write, start_map, start_who};
 ghost use Rattle.dcc_regs.specs.LocoState.{is_state, loco_map, loco_who};
-ghost use Rattle.dcc_regs.specs.Result.{left_pending};
+ghost use Rattle.dcc_regs.specs.Setting.{left_pending};
 ghost use Rattle.dcc_c.specs.Frames.{frame_answer, frame_numbers};
 ghost use Rattle.dcc_c.specs.Applied.{HasApplied};
 ghost use Rattle.dcc_c.specs.Inner.HeardLocos.{AppliesHeard};

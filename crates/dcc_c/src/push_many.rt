@@ -6,7 +6,8 @@ ghost use Rattle.dcc_wire.specs.Kept.{kept_rest};
 ghost use Rattle.dcc_wire.specs.Outcomes.{ones_left};
 ghost use Rattle.dcc_c.specs.Outcomes.{outcome_numbers, outcome_seen, seen_at_answer};
 
-use crate::outcome::{DccOutcome, outcome_of};
+use crate::framer::push_apart;
+use crate::outcome::DccOutcome;
 use dcc_wire::KeptFramer;
 
 /// Takes half-bits of an array, as calls of `dcc_push` do, up to the first half-bit that ends an
@@ -37,19 +38,17 @@ pub extern "C" fn dcc_push_many(
     ensures bit { result ≤ 1 }
     ensures kept { result ≡ 0 → outcome.new ≡ outcome.old }
 {
-    let mut inner = framer.framer();
     let mut at = 0;
     'halves: while at < halves.len() {
-        let seen = inner.push(halves[at]);
+        let us = halves[at];
         at += 1;
-        if !seen.is_nothing() {
-            *framer = inner.keep();
-            *outcome = outcome_of(1, &seen);
-            *taken = at as u64;
-            return 1;
+        if framer.pass(us) {
+            continue 'halves;
         }
+        let ended = push_apart(framer, us, outcome);
+        *taken = at as u64;
+        return ended;
     }
-    *framer = inner.keep();
     *taken = at as u64;
     0
 }

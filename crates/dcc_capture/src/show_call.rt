@@ -96,7 +96,11 @@ fn hold_seen<W: Sink>(
 {
     match seen {
         Seen::Nothing => Ok(()),
-        Seen::Packet(_) | Seen::Refused(_) => hold_outcome(held, half, seen, words, writer),
+        Seen::Packet(_) | Seen::Refused(_) => {
+            // a copy, so that no memory is needed for a half-bit without an outcome
+            let shown = *seen;
+            hold_outcome(held, half, &shown, words, writer)
+        }
     }
 }
 

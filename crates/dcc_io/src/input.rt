@@ -19,7 +19,7 @@ use crate::stream::Source;
 use crate::text_line::{TextLine, front_line, skipped_line_len};
 use crate::word::{
     FrontWord, Run, RunWord, begins_with_line_feed, begins_with_run, front_word, is_gap,
-    len_of_line, short_front_word, short_word_before_cr_lf, whole_word,
+    len_of_line, short_word_before_cr_lf, whole_word, word_of_three, word_of_two,
 };
 use dcc_packet::PacketFault;
 use std::alloc::Global;
@@ -521,13 +521,17 @@ pub fn take_buffered_half<R: Source>(input: &mut Input<R>) -> Option<u16>
     if input.in_comment || input.halves_left == 0 {
         return None;
     }
-    match short_front_word(input.source.ahead()) {
-        Some(front) => input.take_front(front, false),
-        None => match short_word_before_cr_lf(input.source.ahead()) {
-            Some(front) => input.take_front_and_cr_lf(front),
-            None if begins_with_run(input.source.ahead()) => None,
-            None => input.take_any_buffered_half(),
-        },
+    // a call for each number of digits, so that the compiler makes shorter code for each
+    if let Some(front) = word_of_two(input.source.ahead()) {
+        return input.take_front(front, false);
+    }
+    if let Some(front) = word_of_three(input.source.ahead()) {
+        return input.take_front(front, false);
+    }
+    match short_word_before_cr_lf(input.source.ahead()) {
+        Some(front) => input.take_front_and_cr_lf(front),
+        None if begins_with_run(input.source.ahead()) => None,
+        None => input.take_any_buffered_half(),
     }
 }
 

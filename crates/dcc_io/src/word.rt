@@ -1,7 +1,7 @@
 //! The types of words of a capture, and functions that find words in bytes.
 ghost use Rattle.std.specs.Prelude.{◌≡◌, ◌↔◌, ◌<◌, ◌≤◌, min, ℕ, List, [], ◌∷◌, ◌++◌, not, true, ◌==◌, ◌&&◌, IfSome};
-ghost use Rattle.std.specs.Prelude.{IsTrue, false, ◌+◌, ◌||◌, length, nat_lt, slice_index};
-ghost use Rattle.dcc_io.specs.Words.{is_gap, is_mark, is_some_byte, run_of};
+ghost use Rattle.std.specs.Prelude.{IsTrue, false, ◌+◌, ◌||◌, length, nat_lt, slice_index, take, Some};
+ghost use Rattle.dcc_io.specs.Words.{duration_of, is_gap, is_mark, is_some_byte, run_of};
 ghost use Rattle.dcc_io.specs.Inner.FrontWords.{EndNoLine, HasLineFeedAt, IsFrontWord, IsWholeWord, EndedWord};
 
 use crate::digits::Digits;
@@ -116,32 +116,38 @@ pub struct FrontWord {
     pub ends_line: bool,
 }
 
-/// Returns the word at the beginning of `bytes`, if it consists of two or three digits and a space
-/// or a line feed ends it. Most words of a capture have two or three digits. Returns `None` for
-/// other bytes.
+/// Returns the word of two digits at the beginning of `bytes`, if a space or a line feed ends it. Most
+/// words of a capture have two or three digits. Returns `None` for other bytes.
 #[inline(always)]
-pub fn short_front_word(bytes: &[u8]) -> Option<FrontWord>
+pub fn word_of_two(bytes: &[u8]) -> Option<FrontWord>
     ensures { IfSome result (λ front. IsFrontWord bytes.now front) }
 {
-    if bytes.len() < 4 || !is_digit(bytes[0]) || !is_digit(bytes[1]) {
+    let us = two_digits(bytes)?;
+    if !ends_most_words(bytes[2]) {
         return None;
     }
-    let tens = u16::from(bytes[0] - b'0') * 10 + u16::from(bytes[1] - b'0');
-    if ends_most_words(bytes[2]) {
-        return Some(FrontWord {
-            us: tens,
-            len: 2,
-            ends_line: bytes[2] == b'\n',
-        });
+    Some(FrontWord {
+        us: u16::from(us),
+        len: 2,
+        ends_line: bytes[2] == b'\n',
+    })
+}
+
+/// Returns the word of three digits at the beginning of `bytes`, if a space or a line feed ends it.
+/// Returns `None` for other bytes.
+#[inline(always)]
+pub fn word_of_three(bytes: &[u8]) -> Option<FrontWord>
+    ensures { IfSome result (λ front. IsFrontWord bytes.now front) }
+{
+    let us = three_digits(bytes)?;
+    if !ends_most_words(bytes[3]) {
+        return None;
     }
-    if is_digit(bytes[2]) && ends_most_words(bytes[3]) {
-        return Some(FrontWord {
-            us: tens * 10 + u16::from(bytes[2] - b'0'),
-            len: 3,
-            ends_line: bytes[3] == b'\n',
-        });
-    }
-    None
+    Some(FrontWord {
+        us,
+        len: 3,
+        ends_line: bytes[3] == b'\n',
+    })
 }
 
 /// Returns the word at the beginning of `bytes`, if it consists of two or three digits and CR LF
@@ -152,25 +158,49 @@ pub fn short_word_before_cr_lf(bytes: &[u8]) -> Option<FrontWord>
     ensures ends_line { IfSome result (λ front. front.ends_line ≡ false) }
     ensures line_feed { IfSome result (λ front. HasLineFeedAt bytes.now (front.len + 1)) }
 {
-    if bytes.len() < 4 || !is_digit(bytes[0]) || !is_digit(bytes[1]) {
-        return None;
-    }
+    let us = two_digits(bytes)?;
     if is_cr(bytes[2]) && bytes[3] == b'\n' {
         return Some(FrontWord {
-            us: u16::from(bytes[0] - b'0') * 10 + u16::from(bytes[1] - b'0'),
+            us: u16::from(us),
             len: 2,
             ends_line: false,
         });
     }
-    if is_digit(bytes[2]) && is_cr(bytes[3]) && bytes.len() > 4 && bytes[4] == b'\n' {
-        let tens = u16::from(bytes[0] - b'0') * 10 + u16::from(bytes[1] - b'0');
+    let us = three_digits(bytes)?;
+    if is_cr(bytes[3]) && bytes.len() > 4 && bytes[4] == b'\n' {
         return Some(FrontWord {
-            us: tens * 10 + u16::from(bytes[2] - b'0'),
+            us,
             len: 3,
             ends_line: false,
         });
     }
     None
+}
+
+/// Returns the number in the first two bytes, if `bytes` has at least four bytes and these two are
+/// digits.
+#[inline(always)]
+fn two_digits(bytes: &[u8]) -> Option<u8>
+    ensures number { IfSome result (λ us. (4 ≤ length bytes.now) × (duration_of (take 2 bytes.now) ≡ Some us)) }
+    ensures small { IfSome result (λ us. us < 100) }
+{
+    if bytes.len() < 4 || !is_digit(bytes[0]) || !is_digit(bytes[1]) {
+        return None;
+    }
+    Some((bytes[0] - b'0') * 10 + (bytes[1] - b'0'))
+}
+
+/// Returns the number in the first three bytes, if `bytes` has at least four bytes and these three
+/// are digits.
+#[inline(always)]
+fn three_digits(bytes: &[u8]) -> Option<u16>
+    ensures { IfSome result (λ us. (4 ≤ length bytes.now) × (duration_of (take 3 bytes.now) ≡ Some us)) }
+{
+    let tens = two_digits(bytes)?;
+    if !is_digit(bytes[2]) {
+        return None;
+    }
+    Some(u16::from(tens) * 10 + u16::from(bytes[2] - b'0'))
 }
 
 /// Returns true if a byte is a decimal digit.

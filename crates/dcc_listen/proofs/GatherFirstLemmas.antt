@@ -7,7 +7,8 @@ use Rattle.dcc_wire.specs.declared.framer.Framer.{Framer}
 use Rattle.dcc_wire.specs.declared.run.RunSeen.{RunSeen}
 use Rattle.dcc_wire.specs.Framing.{StandsFor}
 use Rattle.dcc_packet.specs.declared.packet.Packet.{Packet}
-use Rattle.dcc_order.specs.Hearing.{ArePackets, AreSpelled, frames_of}
+use Rattle.dcc_order.specs.Hearing.{ArePackets}
+use Rattle.dcc_order.specs.Fleets.{AreShownBy}
 use Rattle.dcc_order.proofs.HearingLemmas.{packets_more, no_packets}
 use Rattle.dcc_io.specs.declared.word.Run.{Run}
 use Rattle.dcc_io.specs.declared.fault.KeptFault.{KeptFault}
@@ -63,7 +64,7 @@ pub GatheringFirst-run : (start now new : InputState) (before line : ℕ) (run :
     (packets held : List Packet) (answer : RunSeen) (so_far : GatheringFirst start now before framer packets)
     (shown : List Packet)
     → AnswersFirst before now (Ok (Some (line, run))) new → StandsFor next (so_far.halves ++ replicate run.n run.us)
-    → Answers so_far.halves run answer → AreSpelled shown (frames_of answer.seen)
+    → Answers so_far.halves run answer → AreShownBy shown answer.seen
     → held ≡ packets ++ shown → length shown ≤ 1 → GatheringFirst start new line next held
 GatheringFirst-run start now new before line run framer next packets held answer so_far shown taken stands answers
     spelled adds one = record {

@@ -6,7 +6,8 @@ use Rattle.dcc_wire.specs.declared.framer.Framer.{Framer}
 use Rattle.dcc_wire.specs.declared.run.RunSeen.{RunSeen}
 use Rattle.dcc_wire.specs.Framing.{StandsFor}
 use Rattle.dcc_packet.specs.declared.packet.Packet.{Packet}
-use Rattle.dcc_order.specs.Hearing.{ArePackets, AreSpelled, frames_of}
+use Rattle.dcc_order.specs.Hearing.{ArePackets}
+use Rattle.dcc_order.specs.Fleets.{AreShownBy}
 use Rattle.dcc_order.proofs.HearingLemmas.{packets_more, no_packets}
 use Rattle.dcc_io.specs.declared.word.Run.{Run}
 use Rattle.dcc_io.specs.declared.fault.KeptFault.{KeptFault}
@@ -33,7 +34,7 @@ few_more packets shown halves run h k some = simp (length-append, length-replica
 pub Gathering-run : (start now new : InputState) (framer next : Framer) (packets held : List Packet) (run : Run)
     (answer : RunSeen) (so_far : Gathering start now framer packets) (shown : List Packet)
     → GaveHalves now (replicate run.n run.us) new → 0 < run.n → StandsFor next (so_far.halves ++ replicate run.n run.us)
-    → Answers so_far.halves run answer → AreSpelled shown (frames_of answer.seen)
+    → Answers so_far.halves run answer → AreShownBy shown answer.seen
     → held ≡ packets ++ shown → length shown ≤ 1 → Gathering start new next held
 Gathering-run start now new framer next packets held run answer so_far shown gave some stands answers spelled adds one =
     record {
@@ -82,7 +83,7 @@ gather_stops start now new framer packets fault none so_far answer =
 pub Gathering-shown : (start now new : InputState) (framer next : Framer) (packets : List Packet) (run : Run)
     (answer : RunSeen) (so_far : Gathering start now framer packets) (shown : List Packet)
     → GaveHalves now (replicate run.n run.us) new → 0 < run.n → StandsFor next (so_far.halves ++ replicate run.n run.us)
-    → Answers so_far.halves run answer → AreSpelled shown (frames_of answer.seen)
+    → Answers so_far.halves run answer → AreShownBy shown answer.seen
     → length shown ≤ 1 → Gathering start new next (packets ++ shown)
 Gathering-shown start now new framer next packets run answer so_far shown gave some stands answers spelled one =
     Gathering-run start now new framer next packets (packets ++ shown) run answer so_far shown gave some stands answers

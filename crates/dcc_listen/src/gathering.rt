@@ -1,7 +1,7 @@
 //! A function that collects the packets of a capture.
 ghost use Rattle.std.specs.Prelude.{◌≡◌, ◌≤◌, ◌++◌, List, OnOk, length};
 ghost use Rattle.dcc_packet.specs.declared.packet.Packet.{Packet};
-ghost use Rattle.dcc_order.specs.Hearing.{AreSpelled, frames_of};
+ghost use Rattle.dcc_order.specs.Fleets.{AreShownBy};
 
 use dcc_packet::Packet;
 use dcc_wire::Seen;
@@ -12,7 +12,7 @@ use std::alloc::AllocError;
 #[inline(always)]
 pub(crate) fn hold_seen(packets: &mut Vec<Packet>, seen: &Seen) -> Result<(), AllocError>
     ensures { OnOk result
-        ((shown : List Packet) × AreSpelled shown (frames_of seen.now)
+        ((shown : List Packet) × AreShownBy shown seen.now
         × (packets.new.items ≡ packets.old.items ++ shown) × (length shown ≤ 1)) }
 {
     match seen {

@@ -2,7 +2,7 @@
 ghost use Rattle.std.specs.Prelude.{◌≡◌, ◌<◌, ◌≤◌, ◌+◌, List, None, IfOk, length};
 ghost use Rattle.std.specs.Option.{option_to_list};
 ghost use Rattle.dcc_packet.specs.declared.packet.Packet.{Packet};
-ghost use Rattle.dcc_order.specs.Hearing.{AreSpelled, frames_of};
+ghost use Rattle.dcc_order.specs.Fleets.{AreShownBy};
 ghost use Rattle.dcc_io.specs.InputState.{InputState};
 ghost use Rattle.dcc_listen.specs.Taking.{Gathering, ReadsPacket};
 ghost use Rattle.dcc_listen.specs.Inner.Pushing.{PushesNext};
@@ -56,7 +56,7 @@ fn push_next<R: Source>(
 
 /// Returns the packet of the outcome `seen`. Returns `None` if the outcome is no packet.
 fn packet_in(seen: &Seen) -> Option<Packet>
-    ensures { AreSpelled (option_to_list result) (frames_of seen.now) }
+    ensures { AreShownBy (option_to_list result) seen.now }
 {
     match seen {
         Seen::Packet(frame) => Some(Packet::read(frame)),

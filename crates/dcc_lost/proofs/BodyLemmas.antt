@@ -11,8 +11,9 @@ use Rattle.dcc_wire.specs.declared.seen.Seen.TheVariants.{Nothing}
 use Rattle.dcc_wire.specs.Half.{class_of}
 use Rattle.dcc_wire.specs.Framing.{Rest, Hunting, InBody, rest, seen, StandsFor, report_at, starts_below, ones_before}
 use Rattle.dcc_wire.specs.Framing.{ones_at_end, rest_at, hunting, used_up, is_start}
-use Rattle.dcc_wire.specs.Outcomes.{outcome_of, bits_in, behind_bits, bytes_in, by_halves}
+use Rattle.dcc_wire.specs.Outcomes.{outcome_of, bits_in, bytes_in, by_halves}
 use Rattle.dcc_wire.specs.Inner.Steps.{answer_of, answer_to, left_of, rest_after}
+use Rattle.dcc_wire.specs.Inner.OutcomeParts.{behind_bits}
 use Rattle.dcc_wire.proofs.ByteBits.{cases_Option}
 use Rattle.dcc_wire.proofs.FramingLemmas.{rest-push, seen-push}
 use Rattle.dcc_wire.proofs.OutcomeLemmas.{outcome_of-more, outcome_of-something}

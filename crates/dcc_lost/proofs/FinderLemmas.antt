@@ -5,9 +5,10 @@ use Rattle.std.proofs.Common.{Option, None, refl, sym, ap, ◌∙◌, arith, len
 use Rattle.std.proofs.Common.{append_assoc, append-nil}
 use Rattle.std.proofs.lemmas.List.{drop-take, get_or-drop}
 use Rattle.std.proofs.lemmas.List.{length-take-le}
-use Rattle.dcc_wire.specs.Framing.{seen, rest, rest_at, hunting, starts_below, outcomes_at, used_up}
+use Rattle.dcc_wire.specs.Framing.{seen, rest, rest_at, hunting, starts_below, used_up}
 use Rattle.dcc_wire.specs.Framing.{ones_at_end}
 use Rattle.dcc_wire.specs.Framing.{ones_before}
+use Rattle.dcc_wire.specs.Inner.OutcomesAt.{outcomes_at}
 use Rattle.dcc_timing.specs.Numbers.{keep_last}
 use Rattle.dcc_timing.proofs.RecentLemmas.{keep_last_keep, keep_last_behind}
 use Rattle.dcc_lost.specs.Finding.{HeardState}

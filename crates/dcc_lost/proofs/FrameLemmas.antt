@@ -10,8 +10,9 @@ use Rattle.dcc_wire.specs.declared.half.Half.TheVariants.{One, Zero, Bad}
 use Rattle.dcc_wire.specs.declared.seen.Seen.{Seen}
 use Rattle.dcc_wire.specs.declared.seen.Seen.TheVariants.{Nothing, Packet, Refused}
 use Rattle.dcc_wire.specs.Framing.{ones_before}
-use Rattle.dcc_wire.specs.Outcomes.{outcome_of, bits_in, behind_bits, bytes_in, by_halves, by_bits, body_outcome}
+use Rattle.dcc_wire.specs.Outcomes.{outcome_of, bits_in, bytes_in, by_halves, body_outcome}
 use Rattle.dcc_wire.specs.Inner.Steps.{answer_of}
+use Rattle.dcc_wire.specs.Inner.OutcomeParts.{behind_bits, by_bits}
 use Rattle.dcc_lost.specs.Nearest.{nearest_class}
 use Rattle.dcc_lost.specs.Lost.{packet_of_length, frame_after_ones}
 

@@ -2,10 +2,12 @@
 -- microseconds are spikes, if no other limit is given.
 use Rattle.std.proofs.Common.{◌≡◌, ℕ, List, [], ◌∷◌, ◌++◌, replicate, drop, None}
 use Rattle.dcc_wire.specs.Bodies.{bits_of, body_bits, halves_of, body, number_of}
-use Rattle.dcc_wire.specs.Framing.{seen, starts_below, outcomes_at, ones_before, ones_at_end, used_up, halves_used}
-use Rattle.dcc_wire.specs.Framing.{is_start, outcome_at, rest, rest_at, hunting}
-use Rattle.dcc_wire.specs.Outcomes.{bytes_in, ones_left, bits_in, behind_bits, body_outcome, by_bits, by_halves}
+use Rattle.dcc_wire.specs.Framing.{seen, starts_below, ones_before, ones_at_end, used_up}
+use Rattle.dcc_wire.specs.Framing.{is_start, rest, rest_at, hunting}
+use Rattle.dcc_wire.specs.Outcomes.{bytes_in, ones_left, bits_in, body_outcome, by_halves}
 use Rattle.dcc_wire.specs.Outcomes.{outcome_of}
+use Rattle.dcc_wire.specs.Inner.OutcomesAt.{outcome_at, outcomes_at}
+use Rattle.dcc_wire.specs.Inner.OutcomeParts.{behind_bits, by_bits}
 use Rattle.dcc_lost.specs.declared.joined.SpikedPacket.{SpikedPacket}
 use Rattle.dcc_lost.specs.Joined.{join_next, joined, joining_of}
 use Rattle.dcc_lost.specs.JoinedLost.{of_each, unless_seen, frame_found, causes_of, with_spikes}
@@ -44,7 +46,7 @@ unfolding sent_with body_3 spiked_3 packets_found packets_closed packets_closed_
     with_spikes causes_of frame_found unless_seen of_each joined joining_of join_next short_preamble
     ones_before_body off_limits unused_at_end since_refusal unused_after last_outcome longest_frame_at_end
     frame_at_end
-    frame_after_ones packet_of_length seen outcome_at outcomes_at starts_below is_start used_up halves_used
+    frame_after_ones packet_of_length seen outcome_at outcomes_at starts_below is_start used_up
     ones_at_end
     ones_before rest rest_at hunting outcome_of bits_in behind_bits bytes_in body_outcome by_bits by_halves ones_left
     body

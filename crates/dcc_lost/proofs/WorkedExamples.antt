@@ -3,10 +3,12 @@ use Rattle.std.proofs.Common.{◌≡◌, ℕ, List, [], ◌∷◌, ◌++◌, rep
 use Rattle.dcc_wire.specs.declared.half.Half.{Half}
 use Rattle.dcc_wire.specs.declared.half.Half.TheVariants.{One, Zero, Bad}
 use Rattle.dcc_wire.specs.Bodies.{bits_of, body_bits, halves_of, body, number_of}
-use Rattle.dcc_wire.specs.Framing.{seen, starts_below, outcomes_at, ones_before, ones_at_end, used_up, halves_used}
-use Rattle.dcc_wire.specs.Framing.{is_start, outcome_at, rest, rest_at, hunting}
-use Rattle.dcc_wire.specs.Outcomes.{bytes_in, ones_left, bits_in, behind_bits, body_outcome, by_bits, by_halves}
+use Rattle.dcc_wire.specs.Framing.{seen, starts_below, ones_before, ones_at_end, used_up}
+use Rattle.dcc_wire.specs.Framing.{is_start, rest, rest_at, hunting}
+use Rattle.dcc_wire.specs.Outcomes.{bytes_in, ones_left, bits_in, body_outcome, by_halves}
 use Rattle.dcc_wire.specs.Outcomes.{outcome_of}
+use Rattle.dcc_wire.specs.Inner.OutcomesAt.{outcome_at, outcomes_at}
+use Rattle.dcc_wire.specs.Inner.OutcomeParts.{behind_bits, by_bits}
 use Rattle.dcc_lost.specs.declared.causes.OffLimits.{OffLimits}
 use Rattle.dcc_lost.specs.declared.causes.ShortPreamble.{ShortPreamble}
 use Rattle.dcc_lost.specs.declared.causes.LostPacket.{LostPacket}
@@ -114,7 +116,7 @@ unfolding sent_with packet_with loco_3 only between packets_lost packets_lost_af
     is_unheard
     longest_frame_at_end frame_at_end frame_after_ones packet_of_length seen outcome_at outcomes_at starts_below
     is_start used_up
-    halves_used ones_at_end ones_before rest rest_at hunting outcome_of bits_in behind_bits bytes_in body_outcome
+    ones_at_end ones_before rest rest_at hunting outcome_of bits_in behind_bits bytes_in body_outcome
     by_bits
     by_halves ones_left body halves_of body_bits bits_of number_of
 rows = assumption
@@ -128,7 +130,7 @@ unfolding shortest_preamble packets_seen_or_lost packets_in least preamble_at_en
     starts_below sent_with packet_with loco_3 only between packets_lost packets_lost_after report_lost
     packet_lost with_causes short_preamble ones_before_body off_limits unused_at_end since_refusal
     unused_after last_outcome frame_lost is_unheard longest_frame_at_end frame_at_end frame_after_ones
-    packet_of_length seen outcome_at outcomes_at is_start used_up halves_used ones_at_end ones_before rest
+    packet_of_length seen outcome_at outcomes_at is_start used_up ones_at_end ones_before rest
     rest_at hunting outcome_of bits_in behind_bits bytes_in body_outcome by_bits by_halves ones_left body
     halves_of body_bits bits_of number_of
 figure_rows = assumption

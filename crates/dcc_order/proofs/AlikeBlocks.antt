@@ -1,8 +1,8 @@
 -- Alike blocks leave the same state.
 use Rattle.std.proofs.Common.{◌≡◌, ◌∙◌, refl, sym, ap, Bool, true, false, List, [], ◌∷◌, Option, Some, None, ◌⊎◌, inl}
 use Rattle.std.proofs.Common.{arith, inr}
-use Rattle.std.specs.Prelude.{filter, Contains, ◌≢◌}
-use Rattle.std.specs.List.{AllByRecursion}
+use Rattle.std.specs.Prelude.{filter, Contains, ◌≢◌, ◌||◌, if◌then◌else◌}
+use Rattle.std.specs.List.{AllByRecursion, dedup, dedup_from}
 use Rattle.std.proofs.lemmas.Bool.{cases_Bool, or_right, false≢true, false_from_ne_true}
 use Rattle.std.proofs.lemmas.Bool.Decides.{not_from_Decides}
 use Rattle.dcc_packet.specs.declared.packet.Packet.{Packet}
@@ -23,7 +23,7 @@ use Rattle.dcc_packet.proofs.SameFrames.{Decides-same, same-refl}
 use Rattle.dcc_regs.proofs.LawLemmas.{values_are_decided}
 use Rattle.dcc_regs.proofs.ResultByParts.{State, step, state_after, same_state, later_of, last_set}
 use Rattle.dcc_regs.proofs.ResultByParts.{overwritten-overwritten, overwritten-twice}
-use Rattle.dcc_order.specs.AlikeLists.{is_one_of, without_repeats, turns, AlikeBlocks}
+use Rattle.dcc_order.specs.AlikeLists.{turns, AlikeBlocks}
 use Rattle.dcc_order.proofs.Contained.{contains_none, contains_head, contains_tail, contains_cases, contains_all}
 
 -- two packets are the same or not, and `same` tells
@@ -32,6 +32,32 @@ same_tells p q = elim (cases_Bool (same p q)) [
   | inl e ↦ inl (e, (Decides-same p q).0 e)
   | inr e ↦ inr (e, not_from_Decides (same p q) (Decides-same p q) e)
 ]
+
+-- the list of packets without each packet that equals the packet directly before it. `before` is the packet before the
+-- first packet of the list.
+abbrev pub without_repeats : Option Packet → List Packet → List Packet
+without_repeats before [] = []
+without_repeats before (p ∷ later) =
+    if is_repeated before p then without_repeats (Some p) later else p ∷ without_repeats (Some p) later
+
+deduped_from : (kept : Packet) (l : List Packet) → dedup_from same kept l ≡ kept ∷ without_repeats (Some kept) l
+deduped_from kept [] = refl
+deduped_from kept (x ∷ l) = elim (same_tells x kept) [
+  | inl (e, is) ↦ rw (is, same-refl kept) (deduped_from kept l)
+  | inr (e, apart) ↦ elim (same_tells kept x) [
+    | inl (f, is) ↦ absurd (apart (sym is))
+    | inr (f, other) ↦ rw (e, f) (ap (λ later. kept ∷ later) (deduped_from x l))
+  ]
+]
+
+-- `dedup` leaves out the packets that equal the packet directly before them
+pub deduped : (l : List Packet) → dedup same l ≡ without_repeats None l
+deduped [] = refl
+deduped (p ∷ l) = deduped_from p l
+
+-- true if packet `x` equals `p` or `q`
+abbrev pub is_one_of : Packet → Packet → Packet → Bool
+is_one_of p q x = same p x || same q x
 
 repeated_is_last : (last : Option Packet) (x : Packet) → is_repeated last x ≡ true → last ≡ Some x
 repeated_is_last None x e = absurd (false≢true e)
@@ -98,7 +124,14 @@ same_setter f left right v w a b e =
     let here = a.ends pair (rw (same-refl a.setter) refl) pair_sets None in
     let there = b.ends pair (or_right (same a.setter b.setter) (same b.setter b.setter) (same-refl b.setter)) pair_sets
     None in
-    cc (here, there, last_behind-unrepeated None (filter pair left), last_behind-unrepeated None (filter pair right))
+    cc (
+      here,
+      there,
+      deduped (filter pair left),
+      deduped (filter pair right),
+      last_behind-unrepeated None (filter pair left),
+      last_behind-unrepeated None (filter pair right),
+    )
   where
     pair_sets : AllSet f (is_one_of a.setter b.setter)
     pair_sets x t none = grind (arith, same_tells a.setter x, same_tells b.setter x, a.gives, b.gives, none)

@@ -1,10 +1,10 @@
 -- Lists, and halves, that are alike for a decoder leave the same registers.
 use Rattle.std.proofs.Common.{◌≡◌, ◌∙◌, refl, sym, ap, Bool, true, false, cond, List, [], ◌∷◌, ◌++◌, Option, Some, inl}
 use Rattle.std.proofs.Common.{inr, ℕ, zero, suc, ◌+◌, ◌≤◌, arith}
-use Rattle.std.specs.Prelude.{◌&&◌}
-use Rattle.std.specs.List.{AllByRecursion}
+use Rattle.std.specs.Prelude.{◌&&◌, fold}
+use Rattle.std.specs.List.{AllByRecursion, starts_with}
 use Rattle.std.proofs.Math.Path.{fun_ext}
-use Rattle.std.proofs.lemmas.Bool.{cases_Bool, and_parts}
+use Rattle.std.proofs.lemmas.Bool.{cases_Bool, and_parts, false≢true}
 use Rattle.std.proofs.lemmas.List.Elements.{filter_passes, recursion_from_All}
 use Rattle.dcc_packet.specs.declared.packet.Packet.{Packet}
 use Rattle.dcc_packet.specs.SamePacket.{same}
@@ -13,22 +13,24 @@ use Rattle.dcc_regs.specs.declared.register.Value.{Value}
 use Rattle.dcc_regs.specs.declared.register.Who.{Who}
 use Rattle.dcc_regs.specs.Writes.{is_own_write}
 use Rattle.dcc_regs.specs.Heard.{hears, heard}
-use Rattle.dcc_regs.specs.Setting.{value_over, mode_in}
-use Rattle.dcc_regs.specs.Result.{is_pending, left_pending, RegisterMap, result}
+use Rattle.dcc_regs.specs.Setting.{left_pending, value_over, mode_in}
+use Rattle.dcc_regs.specs.Inner.WriteParts.{is_pending}
+use Rattle.dcc_regs.specs.Result.{RegisterMap, result}
 use Rattle.dcc_regs.specs.declared.register.Value.TheVariants.{Pending as PendingValue}
 use Rattle.dcc_regs.specs.declared.register.Register.TheVariants.{CvBit}
 use Rattle.dcc_regs.proofs.OwnWrites.{sets-own_write}
 use Rattle.dcc_regs.proofs.RegisterStep.{overwritten-none}
 use Rattle.dcc_regs.proofs.ResultByParts.{State, step, state_after, start, read, read-state_after, state_after-append}
 use Rattle.dcc_regs.proofs.ResultByParts.{same_state, sets_bit, overwritten-twice}
-use Rattle.dcc_order.specs.AlikeLists.{begins_with_two, without_third_copies, Cut, LastBlock, Block, in_first_block}
-use Rattle.dcc_order.specs.AlikeLists.{cut, cut_for, AlikeCuts}
+use Rattle.dcc_order.specs.AlikeLists.{without_third_copies, Cut, LastBlock, Block, cut_more, cut_for}
+use Rattle.dcc_order.specs.AlikeLists.{AlikeCuts}
 use Rattle.dcc_order.specs.GivenLists.{writes_in}
 use Rattle.dcc_order.specs.Laws.{AlikeListsLeaveTheSame, AlikeListsAgreeAfterEachBlock, through_block}
 use Rattle.dcc_order.specs.Hearing.{HasHeardHalves, ArePackets}
 use Rattle.dcc_order.specs.HearingLaws.{AlikeHalvesLeaveTheSame}
 use Rattle.dcc_order.proofs.AlikeBlocks.{InBlock, alike_blocks}
 use Rattle.dcc_order.proofs.HearingLemmas.{one_list_of_packets}
+use Rattle.dcc_order.proofs.OneMorePacket.{in_first_block, cut, cut_is}
 
 -- the packets of a cut list
 abbrev pub flat : Cut → List Packet
@@ -39,12 +41,15 @@ flat-in_first_block : (p : Packet) (x : Cut) → flat (in_first_block p x) ≡ p
 flat-in_first_block p (LastBlock block) = refl
 flat-in_first_block p (Block block write rest) = refl
 
-pub flat-cut : (l : List Packet) → flat (cut l) ≡ l
-flat-cut [] = refl
-flat-cut (p ∷ l) = elim (cases_Bool (is_own_write p)) [
-  | inl e ↦ rw (e, flat-cut l) refl
-  | inr e ↦ rw (e, flat-in_first_block p (cut l), flat-cut l) refl
+flat-from_first : (l : List Packet) → flat (cut l) ≡ l
+flat-from_first [] = refl
+flat-from_first (p ∷ l) = elim (cases_Bool (is_own_write p)) [
+  | inl e ↦ rw (e, flat-from_first l) refl
+  | inr e ↦ rw (e, flat-in_first_block p (cut l), flat-from_first l) refl
 ]
+
+pub flat-cut : (l : List Packet) → flat (fold cut_more (LastBlock []) l) ≡ l
+flat-cut l = rw (cut_is l) (flat-from_first l)
 
 -- each block of a cut list has packets that the decoder hears, and no own write
 abbrev WellCut : Who → Cut → Type 0
@@ -59,7 +64,7 @@ well_in_first_block who p (Block block write rest) here well = ((here, well.0), 
 well_cut : (who : Who) (l : List Packet) → AllByRecursion (λ p. hears who p ≡ true) l
     → WellCut who (cut (without_third_copies l))
 well_cut who [] all = tt
-well_cut who (p ∷ l) all = elim (cases_Bool (is_own_write p && begins_with_two l p)) [
+well_cut who (p ∷ l) all = elim (cases_Bool (is_own_write p && starts_with same l (p ∷ p ∷ []))) [
   | inl third ↦ rw third (well_cut who l all.1)
   | inr kept ↦ rw kept (elim (cases_Bool (is_own_write p)) [
     | inl e ↦ rw e (tt, well_cut who l all.1)
@@ -68,8 +73,8 @@ well_cut who (p ∷ l) all = elim (cases_Bool (is_own_write p && begins_with_two
 ]
 
 well_cut_for : (who : Who) (l : List Packet) → WellCut who (cut_for who l)
-well_cut_for who l = well_cut who (heard who l)
-    (recursion_from_All (λ p. hears who p ≡ true) (heard who l) (filter_passes (hears who) l))
+well_cut_for who l = rw (cut_is (without_third_copies (heard who l))) (well_cut who (heard who l)
+    (recursion_from_All (λ p. hears who p ≡ true) (heard who l) (filter_passes (hears who) l)))
 
 -- alike cut lists leave the same up to the end of a block
 alike_through : (who : Who) (s : State) (k : ℕ) (x y : Cut) → WellCut who x → WellCut who y → AlikeCuts x y
@@ -110,20 +115,21 @@ third_copy s p write = same_state (step (step (step s p) p) p) (step (step s p) 
     written_again false v o = refl
 
 -- an own write before two copies of it changes nothing
-left_out : (s : State) (p : Packet) (l : List Packet) → is_own_write p ≡ true → begins_with_two l p ≡ true
-    → state_after s l ≡ state_after (step s p) l
+left_out : (s : State) (p : Packet) (l : List Packet) → is_own_write p ≡ true
+    → starts_with same l (p ∷ p ∷ []) ≡ true → state_after s l ≡ state_after (step s p) l
 left_out s p [] write two = cc
-left_out s p (q ∷ []) write two = cc
+left_out s p (q ∷ []) write two = absurd (false≢true (and_parts (same p q) false two).1)
 left_out s p (q ∷ r ∷ l) write two =
-    let both = and_parts (same p q) (same p r) two in
-    rw (← (Decides-same p q).0 both.0, ← (Decides-same p r).0 both.1)
+    let first = and_parts (same p q) (same p r && true) two in
+    let second = and_parts (same p r) true first.1 in
+    rw (← (Decides-same p q).0 first.0, ← (Decides-same p r).0 second.0)
     (ap (λ t. state_after t l) (sym (third_copy s p write)))
 
 state_after-capped : (s : State) (l : List Packet) → state_after s (without_third_copies l) ≡ state_after s l
 state_after-capped s [] = refl
-state_after-capped s (p ∷ l) = elim (cases_Bool (is_own_write p && begins_with_two l p)) [
+state_after-capped s (p ∷ l) = elim (cases_Bool (is_own_write p && starts_with same l (p ∷ p ∷ []))) [
   | inl e ↦
-      (let both = and_parts (is_own_write p) (begins_with_two l p) e in
+      (let both = and_parts (is_own_write p) (starts_with same l (p ∷ p ∷ [])) e in
       rw e (state_after-capped s l ∙ left_out s p l both.0 both.1))
   | inr e ↦ rw e (state_after-capped (step s p) l)
 ]

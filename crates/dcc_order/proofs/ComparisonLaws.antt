@@ -2,12 +2,14 @@
 use Rattle.std.proofs.Common.{ℕ, zero, suc, ◌+◌, ◌^◌, ◌<◌, ◌≤◌, ◌≡◌, ◌∙◌, refl, sym, ap, subst, Bool, true, false, cond}
 use Rattle.std.proofs.Common.{inl, inr, List, [], ◌∷◌, ◌++◌, Option, Some, None, is_none, length, arith, add-one}
 use Rattle.std.specs.Prelude.{Contains, ◌&&◌, fold}
+use Rattle.std.specs.List.{starts_with}
 use Rattle.std.proofs.Math.Nat.{suc-min-suc}
 use Rattle.std.proofs.lemmas.Bool.{cases_Bool}
 use Rattle.std.proofs.lemmas.List.{length-append}
 use Rattle.std.proofs.lemmas.List.Sums.{fold-append, length-filter, count_by-le-length}
 use Rattle.std.proofs.lemmas.List.Elements.{filter-append, Contains-push}
 use Rattle.dcc_packet.specs.declared.packet.Packet.{Packet}
+use Rattle.dcc_packet.specs.SamePacket.{same}
 use Rattle.dcc_regs.specs.declared.register.Who.{Who}
 use Rattle.dcc_regs.specs.Heard.{hears, heard}
 use Rattle.dcc_regs.specs.Result.{is_repeated}
@@ -18,9 +20,9 @@ use Rattle.dcc_order.specs.declared.verdict.Verdict.{Verdict}
 use Rattle.dcc_order.specs.declared.verdict.Verdict.TheVariants.{Members, Alike}
 use Rattle.dcc_order.specs.declared.wants.Wants.{Wants}
 use Rattle.dcc_order.specs.declared.wants.Wants.TheVariants.{Left, Right, Done}
-use Rattle.dcc_order.specs.AlikeLists.{begins_with_two, Cut, LastBlock, Block, without_third_copies, cut_for}
+use Rattle.dcc_order.specs.AlikeLists.{Cut, LastBlock, Block, without_third_copies, cut_more, cut_for}
 use Rattle.dcc_order.specs.AlikeLists.{AlikeBlocks}
-use Rattle.dcc_order.specs.OneMore.{ends_with_two, cut_more}
+use Rattle.dcc_order.specs.OneMore.{ends_with_two}
 use Rattle.dcc_order.specs.GivenLists.{Lists, with_item, IsVerdictOfAll, writes_in, open_blocks_len, most_held}
 use Rattle.dcc_order.specs.Comparisons.{ComparerRepresents, GoesOn, WantsLeft, WantsRight, Settled, Stage, AlikeUpTo}
 use Rattle.dcc_order.specs.Comparisons.{open_cut}
@@ -83,7 +85,7 @@ up_to_next end (suc k) x y left right p up alike ends = absurd up
 -- a list without third copies is no longer than the list
 length-capped : (l : List Packet) → length (without_third_copies l) ≤ length l
 length-capped [] = omega arith
-length-capped (p ∷ l) = elim (cases_Bool (is_own_write p && begins_with_two l p)) [
+length-capped (p ∷ l) = elim (cases_Bool (is_own_write p && starts_with same l (p ∷ p ∷ []))) [
   | inl e ↦ rw e (omega (arith, length-capped l))
   | inr e ↦ rw e (omega (arith, length-capped l))
 ]

@@ -1,21 +1,21 @@
 -- Fleets that hear what was seen.
-use Rattle.std.proofs.Common.{◌≡◌, ◌++◌, ℕ, List, [], sym}
+use Rattle.std.proofs.Common.{◌≡◌, ◌++◌, ℕ, List, [], None, refl}
 use Rattle.dcc_wire.specs.declared.seen.Seen.{Seen}
 use Rattle.dcc_wire.specs.Framing.{Rest, StandsFor, seen, report_at}
 use Rattle.dcc_regs.specs.declared.register.Who.{Who}
 use Rattle.dcc_regs.specs.Result.{RegisterMap}
 use Rattle.dcc_regs.proofs.InParts.{heard_nothing}
-use Rattle.dcc_order.specs.Hearing.{frames_of}
+use Rattle.dcc_order.specs.Hearing.{packet_frame}
 use Rattle.dcc_order.specs.Fleets.{EachHearsSeen, HearMore}
 use Rattle.dcc_order.proofs.HearingLemmas.{heard_half, no_packet}
 use Rattle.dcc_order.proofs.TrackLemmas.{AllZip-same, AllZip-then}
 
 module _ {A : Type 0} {who : A → Who} {registers : A → RegisterMap} where
   -- where no packet was seen the members stay as they are
-  pub none_hears : (shown : Seen) (members : List A) → frames_of shown ≡ []
+  pub none_hears : (shown : Seen) (members : List A) → packet_frame shown ≡ None
       → EachHearsSeen who registers shown members members
   none_hears shown members none = record {
-    spelled = ([], sym none);
+    spelled = ([], rw none refl);
     each = λ packets spelled.
         rw (no_packet packets (rw none at spelled)) (AllZip-same _ (λ member. heard_nothing _ _) members);
   }

@@ -1,7 +1,8 @@
 -- Two blocks, held by numbers: their members and the order of those that conflict.
 use Rattle.std.proofs.Common.{ℕ, ◌+◌, ◌<◌, ◌≤◌, ◌≡◌, ◌∙◌, refl, sym, ap, subst, List, [], ◌∷◌, ◌++◌, length, arith}
-use Rattle.std.proofs.Common.{Option, None, inl, inr, Some, cond, get_or, set, map, take, add-one}
+use Rattle.std.proofs.Common.{Option, inl, inr, Some, cond, get_or, set, map, take, add-one}
 use Rattle.std.specs.Prelude.{Contains, ◌↔◌, filter}
+use Rattle.std.specs.List.{dedup}
 use Rattle.std.specs.Option.{unwrap_or}
 use Rattle.std.specs.Ordering.{nat_cmp}
 use Rattle.std.specs.BTreeMap.{is_at}
@@ -20,7 +21,8 @@ use Rattle.dcc_packet.specs.Spelling.{spelling}
 use Rattle.dcc_regs.specs.Conflict.{Conflict}
 use Rattle.dcc_regs.proofs.LawLemmas.{conflict_is_mutual}
 use Rattle.dcc_order.specs.declared.places.Place.{Place}
-use Rattle.dcc_order.specs.AlikeLists.{SameMembers, SameOrder, SameTurns, without_repeats}
+use Rattle.dcc_order.specs.AlikeLists.{turns}
+use Rattle.dcc_order.specs.Verdicts.{SameMembers, SameOrder}
 use Rattle.dcc_order.specs.FrameNumbers.{frame_number, IsIndex}
 use Rattle.dcc_order.specs.Held.{Held}
 use Rattle.dcc_order.specs.HeldPlaces.{AreHeld, held_at, members_at, numbers_in_slots, packets_numbered, Numbered}
@@ -147,9 +149,9 @@ numbers_back _ _ [] _ = refl
 numbers_back members once (n ∷ ns) all = rw (once n Idle all.0, numbers_back members once ns all.1) refl
 
 -- two packets take turns, whichever is named first
-turned : (p q : Packet) (left right : List Packet) → SameTurns left right p q → SameTurns left right q p
+turned : (p q : Packet) (left right : List Packet) → turns p q left ≡ turns p q right → turns q p left ≡ turns q p right
 turned p q left right =
-    subst (λ t. without_repeats None (filter t left) ≡ without_repeats None (filter t right))
+    subst (λ t. dedup same (filter t left) ≡ dedup same (filter t right))
     (fun_ext (λ x. or_comm (same p x) (same q x)))
 
 module _ {places : List Place} {count : ℕ} {others : List ℕ} (held : AreHeld places count others) where
@@ -203,7 +205,7 @@ module _ {places : List Place} {count : ℕ} {others : List ℕ} (held : AreHeld
       ∙ ap (λ (place : Place). place.member) (get_or-take count places k e below)
 
   told : (own rival : ℕ) → own < count → rival < own → Conflict (at own) (at rival)
-      → SameTurns first second (at own) (at rival)
+      → (turns (at own) (at rival) first ≡ turns (at own) (at rival) second)
       ↔ (turns_of own rival (numbers_in_slots places) ≡ turns_of own rival others)
   told own rival own_in before clash =
       rw (numbers_back ms held.members.once (numbers_in_slots places) held.first_numbered, its_numbers) at
@@ -237,7 +239,7 @@ module _ {places : List Place} {count : ℕ} {others : List ℕ} (held : AreHeld
 
       numbered : ((own : ℕ) → own < count → NumberedAlike places others own) → (own rival : ℕ) → own < count
           → rival < own
-          → Conflict (at own) (at rival) → SameTurns first second (at own) (at rival)
+          → Conflict (at own) (at rival) → turns (at own) (at rival) first ≡ turns (at own) (at rival) second
       numbered each own rival own_in before clash =
           (told own rival own_in before clash).1 (each own own_in rival nowhere nowhere before
           (rw (← member_at own nowhere own_in, ← member_at rival nowhere (omega (arith, before, own_in))) clash))

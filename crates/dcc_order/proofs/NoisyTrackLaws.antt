@@ -21,14 +21,14 @@ use Rattle.dcc_packet.specs.Spelling.{spelling}
 use Rattle.dcc_regs.specs.declared.register.Who.{Who}
 use Rattle.dcc_regs.specs.Heard.{hears, heard}
 use Rattle.dcc_regs.specs.Safety.{can_move}
-use Rattle.dcc_order.specs.Hearing.{frames_of, frames_among, AreSpelled, ArePackets, HasHeardHalves}
+use Rattle.dcc_order.specs.Hearing.{ArePackets, HasHeardHalves}
 use Rattle.dcc_order.specs.SendingLaws.{SentPacket, spelled_out}
 use Rattle.dcc_order.specs.NoisyTracks.{halves_of_sent, packets_of_sent, copies_around_noise}
 use Rattle.dcc_order.specs.NoisyTracks.{CanBeHeardAfterNoise}
 use Rattle.dcc_order.specs.NoisyTracks.{NoiseCostsNoPacketButTheFirst, NoiseBetweenBodiesCostsNoPacket}
 use Rattle.dcc_order.specs.NoisyTracks.{DecodersHearPacketsAfterNoise, MeasuredPacketsAreHeard}
 use Rattle.dcc_order.specs.NoisyTracks.{MeasuringChangesNoDecoder, OneOfThreeCopiesIsHeard, OneOfThreeStopsIsEnough}
-use Rattle.dcc_order.proofs.HearingLemmas.{same_packets, frames_in-append, no_packet}
+use Rattle.dcc_order.proofs.HearingLemmas.{same_packets, frames_among, frames_in-append, no_packet}
 use Rattle.dcc_order.proofs.SentAndHeard.{all_frames, frames_at_last_halves, sent_packets_are_heard}
 use Rattle.dcc_order.proofs.SafeTrackLaws.{last_stop_stops}
 
@@ -37,8 +37,8 @@ record IsSplit (packets : List Packet) (front back : List (List ℕ)) : Type 0 w
   first : List Packet
   later : List Packet
   parts : packets ≡ first ++ later
-  in_front : AreSpelled first front
-  in_back : AreSpelled later back
+  in_front : map spelling first ≡ front
+  in_back : map spelling later ≡ back
 
 split_on : (p : Packet) (packets : List Packet) (front back : List (List ℕ)) → IsSplit packets front back
     → IsSplit (p ∷ packets) (spelling p ∷ front) back
@@ -50,7 +50,7 @@ split_on p packets front back s = record {
   in_back = s.in_back;
 }
 
-split : (packets : List Packet) (front back : List (List ℕ)) → AreSpelled packets (front ++ back)
+split : (packets : List Packet) (front back : List (List ℕ)) → map spelling packets ≡ front ++ back
     → IsSplit packets front back
 split packets [] back e = record { first = []; later = packets; parts = refl; in_front = refl; in_back = e }
 split [] (frame ∷ front) back e = absurd (cc)
@@ -60,15 +60,15 @@ split (p ∷ packets) (frame ∷ front) back e =
     rw (← here) (split_on p packets front back (split packets front back later))
 
 -- a body that the noise leaves unfinished has at most one packet
-one_frame : (outcome : Seen) → length (frames_of outcome ++ []) ≤ 1
-one_frame Nothing = omega arith
-one_frame (PacketSeen frame) = omega arith
-one_frame (Refused fault) = omega arith
+one_frame : (place : ℕ) (outcome : Seen) → length (frames_among ((place, outcome) ∷ [])) ≤ 1
+one_frame place Nothing = omega arith
+one_frame place (PacketSeen frame) = omega arith
+one_frame place (Refused fault) = omega arith
 
 few_of_open : (place : ℕ) (end : Option (ℕ × Seen)) → length (frames_among (at_open_end place end)) ≤ 1
 unfolding at_open_end
 few_of_open place None = omega arith
-few_of_open place (Some p) = one_frame p.1
+few_of_open place (Some p) = one_frame place p.1
 
 -- the first packet is kept, or it is lost and its preamble is short
 abbrev KeptOrLost : ℕ → Option (ℕ × Seen) → Sent → Type 0

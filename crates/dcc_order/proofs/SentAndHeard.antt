@@ -10,13 +10,14 @@ use Rattle.dcc_wire.specs.Framing.{Rest, seen, report_at}
 use Rattle.dcc_wire.specs.Frames.{IsFrame}
 use Rattle.dcc_packet.specs.Spelling.{spelling}
 use Rattle.dcc_packet.proofs.FrameSpellings as frames
-use Rattle.dcc_order.specs.Hearing.{frames_among, ArePackets}
+use Rattle.dcc_order.specs.Hearing.{ArePackets}
 use Rattle.dcc_order.specs.SendingLaws.{SentPacket, spelled_out, SentPacketsAreHeard, NothingElseIsSeen}
 use Rattle.dcc_order.specs.SendingLaws.{SentPacketIsDone}
 use Rattle.dcc_order.specs.OneMoreHalf.{StandsForOneMore, ShowsAtOneMore}
 use Rattle.dcc_order.specs.SentHalves.{last_seen, HasComeBehind, HasHeardAll, IsBeingSent, SendingBegins, NothingIsSeen}
 use Rattle.dcc_order.specs.SentHalves.{SomethingIsSeen, FrameIsSeen, FramesAreHeard}
 use Rattle.dcc_order.proofs.AlikeCuts.{holds}
+use Rattle.dcc_order.proofs.HearingLemmas.{frames_among}
 
 pub all_frames : (sent : List SentPacket) → AllFrames (map spelled_out sent)
 unfolding AllFrames

@@ -7,8 +7,8 @@ use Rattle.dcc_packet.specs.declared.packet.Packet.{Packet}
 use Rattle.dcc_regs.specs.declared.register.Who.{Who}
 use Rattle.dcc_order.specs.declared.verdict.Verdict.{Verdict}
 use Rattle.dcc_order.specs.declared.verdict.Verdict.TheVariants.{Alike, Members}
-use Rattle.dcc_order.specs.AlikeLists.{Cut, LastBlock, Block, cut_for, SameMembers}
-use Rattle.dcc_order.specs.Verdicts.{IsVerdictFrom}
+use Rattle.dcc_order.specs.AlikeLists.{Cut, LastBlock, Block, cut_for}
+use Rattle.dcc_order.specs.Verdicts.{SameMembers, IsVerdictFrom}
 use Rattle.dcc_order.specs.OneMore.{GoesOnAs}
 use Rattle.dcc_order.specs.GivenLists.{MayFollow}
 use Rattle.dcc_order.specs.Comparisons.{AlikeUpTo, open_cut, cut_then, IsVerdictAtEnds}

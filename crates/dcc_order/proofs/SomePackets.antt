@@ -9,16 +9,18 @@ use Rattle.dcc_wire.specs.declared.seen.Fault.TheVariants.{BadHalf, SplitBit, To
 use Rattle.dcc_wire.specs.declared.seen.Seen.{Seen}
 use Rattle.dcc_wire.specs.declared.seen.Seen.TheVariants.{Nothing, Packet as PacketSeen, Refused}
 use Rattle.dcc_wire.specs.Frames.{IsFrame}
-use Rattle.dcc_wire.specs.Framing.{seen, starts, outcome_at, outcomes_at}
+use Rattle.dcc_wire.specs.Framing.{seen, starts}
 use Rattle.dcc_wire.specs.Half.{class_of}
-use Rattle.dcc_wire.specs.Outcomes.{bits_in, behind_bits, bytes_in, body_outcome, by_bits, by_halves, outcome_of}
+use Rattle.dcc_wire.specs.Outcomes.{bits_in, bytes_in, body_outcome, by_halves, outcome_of}
+use Rattle.dcc_wire.specs.Inner.OutcomesAt.{outcome_at, outcomes_at}
+use Rattle.dcc_wire.specs.Inner.OutcomeParts.{behind_bits, by_bits}
 use Rattle.dcc_wire.proofs.OutcomeRows.{outcomes-rows}
+use Rattle.dcc_wire.proofs.OutcomesAt.{seen_at}
 use Rattle.dcc_packet.specs.declared.packet.Packet.{Packet}
 use Rattle.dcc_packet.specs.Spelling.{spelling}
-use Rattle.dcc_order.specs.Hearing.{frames_among, AreSpelled}
 use Rattle.dcc_order.specs.HearingLaws.{SomeListOfPackets}
 use Rattle.dcc_order.proofs.FramesArePackets.{frames_are_packets}
-use Rattle.dcc_order.proofs.HearingLemmas.{frames_in-append}
+use Rattle.dcc_order.proofs.HearingLemmas.{frames_among, frames_in-append}
 
 refused_is_no_packet : (outcome : Option (ℕ × Seen)) (m n : ℕ) (fault : Fault) (bytes : List ℕ)
     → outcome ≡ Some (m, Refused fault) → outcome ≡ Some (n, PacketSeen bytes) → IsFrame bytes
@@ -40,7 +42,7 @@ packet_is_frame (One ∷ Zero ∷ more) n bytes e = refused_is_no_packet _ 2 n S
 packet_is_frame (One ∷ Bad ∷ more) n bytes e = refused_is_no_packet _ 2 n BadHalf bytes refl e
 
 abbrev Contents : List (ℕ × Seen) → Type 0
-Contents outcomes = (packets : List Packet) × AreSpelled packets (frames_among outcomes)
+Contents outcomes = (packets : List Packet) × (map spelling packets ≡ frames_among outcomes)
 
 of_outcome : (halves : List Half) (start : ℕ) (end : Option (ℕ × Seen)) → outcome_of (drop start halves) ≡ end
     → Contents (outcome_at halves start)
@@ -64,5 +66,5 @@ of_outcomes halves (start ∷ earlier) =
     )
 
 pub some_list_of_packets : SomeListOfPackets
-unfolding seen
-some_list_of_packets halves = of_outcomes (map class_of halves) (starts (map class_of halves))
+some_list_of_packets halves =
+    rw (seen_at halves) (of_outcomes (map class_of halves) (starts (map class_of halves)))

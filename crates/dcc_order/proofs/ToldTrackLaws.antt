@@ -14,7 +14,7 @@ use Rattle.dcc_regs.specs.Notes.{Note}
 use Rattle.dcc_regs.specs.Result.{RegisterMap, HasHeard}
 use Rattle.dcc_regs.specs.declared.register.Who.{Who}
 use Rattle.dcc_regs.proofs.InParts.{heard_more, heard_nothing}
-use Rattle.dcc_order.specs.Hearing.{AreSpelled, frames_of}
+use Rattle.dcc_order.specs.Fleets.{AreShownBy}
 use Rattle.dcc_order.specs.OneMoreHalf.{StandsForOneMore, ShowsAtOneMore}
 use Rattle.dcc_order.specs.ToldTracks.{IsTold, HaveCome, WereHeardAndTold}
 use Rattle.dcc_order.specs.ToldTracks.{NoHalfHasCome, NoPacketHasCome, PacketIsTold, PacketIsPassedOver}
@@ -27,7 +27,7 @@ told_more told [] more a b c e f = subst (λ l. IsTold told more l c) e f
 told_more told (p ∷ first) more a b c e f = (e.0, e.1, told_more told first more e.0 b c e.2 f)
 
 -- an answer that is no packet spells none
-none_spelled : (answer : Seen) → ((frame : Frame) → answer ≡ PacketSeen frame → ⊥) → AreSpelled [] (frames_of answer)
+none_spelled : (answer : Seen) → ((frame : Frame) → answer ≡ PacketSeen frame → ⊥) → AreShownBy [] answer
 none_spelled (PacketSeen frame) never = absurd (never frame refl)
 none_spelled answer never = refl
 
@@ -36,7 +36,7 @@ one_half : {L : Type 0} {told : L → Note → L → Type 0} (track : List ℕ) 
     (shown : List Packet) {who who' who'' : Who} {start now after : RegisterMap} {a b c : L}
     → WereHeardAndTold told (take n track) framer who start who' now a b → n < length track
     → StandsForOneMore framer (slice_index_or track n 0) next → ShowsAtOneMore framer (slice_index_or track n 0) answer
-    → AreSpelled shown (frames_of answer)
+    → AreShownBy shown answer
     → HasHeard shown who' now who'' after → IsTold told (heard who shown) b c
     → WereHeardAndTold told (take (n + 1) track) next who start who'' after a c
 one_half {told = told} track n answer shown {who = who} {a = a} {b = b} {c = c} come in_track stands sees spelled hear

@@ -13,11 +13,11 @@ use Rattle.dcc_packet.specs.SamePacket.{same}
 use Rattle.dcc_packet.specs.declared.packet.Packet.TheVariants.{Idle}
 use Rattle.dcc_packet.proofs.SameFrames.{same-refl}
 use Rattle.dcc_regs.specs.Result.{is_repeated}
-use Rattle.dcc_order.specs.AlikeLists.{is_one_of, without_repeats, turns, SameTurns}
+use Rattle.dcc_order.specs.AlikeLists.{turns}
 use Rattle.dcc_order.specs.declared.turns.Turns.{Turns}
 use Rattle.dcc_order.specs.Turns.{last_behind, own_turn, rival_turn, no_turns, with_turn, turns_of, Counted}
 use Rattle.dcc_order.specs.Members.{member_number, EachOnce}
-use Rattle.dcc_order.proofs.AlikeBlocks.{same_tells, last_behind-unrepeated}
+use Rattle.dcc_order.proofs.AlikeBlocks.{same_tells, is_one_of, without_repeats, deduped, last_behind-unrepeated}
 use Rattle.dcc_order.proofs.Contained.{contains_none, snoc}
 use Rattle.dcc_order.proofs.MemberLaws.{stands_at}
 
@@ -42,6 +42,8 @@ with_packet taken x = taken ++ cond (is_repeated (last_behind None taken) x) [] 
 turns-append : (p q : Packet) (block : List Packet) (x : Packet)
     → turns p q (block ++ x ∷ []) ≡ cond (is_one_of p q x) (with_packet (turns p q block) x) (turns p q block)
 turns-append p q block x = rw (
+  deduped (filter (is_one_of p q) (block ++ x ∷ [])),
+  deduped (filter (is_one_of p q) block),
   filter-append (is_one_of p q) block (x ∷ []),
   last_behind-unrepeated None (filter (is_one_of p q) block),
 ) (elim (cases_Bool (is_one_of p q x)) [
@@ -185,7 +187,7 @@ module _ (members : List Packet) (once : EachOnce members) (own rival : ℕ) (ow
 
   -- members that are two packets take the same turns in two blocks exactly where the count is the same
   pub same_turns_counted : (at own ≡ at rival → ⊥) → (left right : List Packet)
-      → SameTurns left right (at own) (at rival) ↔
+      → (turns (at own) (at rival) left ≡ turns (at own) (at rival) right) ↔
       (turns_of own rival (map (member_number members) left) ≡ turns_of own rival (map (member_number members) right))
   same_turns_counted apart left right =
       same_told (at own) (at rival) apart (turns_counted apart left) (turns_counted apart right)

@@ -10,8 +10,8 @@ use Rattle.dcc_order.specs.declared.verdict.Verdict.{Verdict}
 use Rattle.dcc_order.specs.declared.verdict.Verdict.TheVariants.{Alike, Members, Order}
 use Rattle.dcc_order.specs.declared.wants.Wants.{Wants}
 use Rattle.dcc_order.specs.declared.wants.Wants.TheVariants.{Left, Right, Done}
-use Rattle.dcc_order.specs.AlikeLists.{Cut, LastBlock, Block, cut_for, SameMembers, SameOrder, AlikeBlocks}
-use Rattle.dcc_order.specs.Verdicts.{IsVerdictFrom}
+use Rattle.dcc_order.specs.AlikeLists.{Cut, LastBlock, Block, cut_for, AlikeBlocks}
+use Rattle.dcc_order.specs.Verdicts.{SameMembers, SameOrder, IsVerdictFrom}
 use Rattle.dcc_order.specs.GivenLists.{Lists, IsVerdictOfAll}
 
 -- the `LastHeard` of a list in which no packet was heard

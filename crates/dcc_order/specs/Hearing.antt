@@ -1,33 +1,25 @@
 -- The packets in half-bits, and decoders that hear these packets.
-use Rattle.std.specs.Prelude.{◌≡◌, ℕ, List, [], ◌∷◌, ◌++◌, map}
-use Rattle.std.specs.List.{concat}
+use Rattle.std.specs.Prelude.{◌≡◌, ℕ, List, Option, Some, None, map}
+use Rattle.std.specs.List.{concat, filter_map}
 use denote.Bor.{Bor}
 use Rattle.dcc_wire.specs.declared.seen.Seen.{Seen}
-use Rattle.dcc_wire.specs.declared.seen.Seen.TheVariants.{Nothing, Packet as PacketSeen, Refused}
+use Rattle.dcc_wire.specs.declared.seen.Seen.TheVariants.{Packet as PacketSeen}
 use Rattle.dcc_wire.specs.Framing.{seen}
 use Rattle.dcc_packet.specs.declared.packet.Packet.{Packet}
 use Rattle.dcc_packet.specs.Spelling.{spelling}
 use Rattle.dcc_regs.specs.declared.register.Who.{Who}
 use Rattle.dcc_regs.specs.Result.{RegisterMap, HasHeard}
 
--- a list with the frame of an outcome that is a packet. For any other outcome, the list is empty.
-abbrev pub frames_of : Seen → List (List ℕ)
-frames_of Nothing = []
-frames_of (PacketSeen frame) = frame ∷ []
-frames_of (Refused fault) = []
+-- the frame of the outcome `shown`, if `shown` is a packet. For any other outcome, the result is
+-- `None`.
+abbrev pub packet_frame : Seen → Option (List ℕ)
+packet_frame (PacketSeen frame) = Some frame
+packet_frame shown = None
 
--- the frames of all packets in a list of outcomes
-abbrev pub frames_among : List (ℕ × Seen) → List (List ℕ)
-frames_among [] = []
-frames_among (at ∷ later) = frames_of at.1 ++ frames_among later
-
--- `frames` are the frames of `packets`, in the same order
-abbrev pub AreSpelled : List Packet → List (List ℕ) → Type 0
-AreSpelled packets frames = map spelling packets ≡ frames
-
--- `packets` are the packets in the half-bits `halves`
+-- `packets` are the packets in the half-bits `halves`: their frames are the frames of the outcomes
+-- of `halves`, in the same order
 abbrev pub ArePackets : List Packet → List ℕ → Type 0
-ArePackets packets halves = AreSpelled packets (frames_among (seen halves))
+ArePackets packets halves = map spelling packets ≡ filter_map (λ at. packet_frame at.1) (seen halves)
 
 -- a decoder with identity `who` and registers `start` has heard the packets in the half-bits
 -- `halves`. The decoder then has the identity `who'` and the registers `now`.

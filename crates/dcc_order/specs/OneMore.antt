@@ -5,7 +5,7 @@ use Rattle.dcc_regs.specs.declared.register.Who.{Who}
 use Rattle.dcc_packet.specs.SamePacket.{same}
 use Rattle.dcc_regs.specs.Writes.{is_own_write}
 use Rattle.dcc_regs.specs.Heard.{hears, heard}
-use Rattle.dcc_order.specs.AlikeLists.{Cut, LastBlock, Block, cut_for}
+use Rattle.dcc_order.specs.AlikeLists.{Cut, LastBlock, Block, cut_more, cut_for}
 
 -- true if the last two packets of a list equal `p`
 abbrev pub ends_with_two : List Packet → Packet → Bool
@@ -13,12 +13,6 @@ ends_with_two [] p = false
 ends_with_two (q ∷ []) p = false
 ends_with_two (q ∷ r ∷ []) p = same p q && same p r
 ends_with_two (q ∷ r ∷ s ∷ later) p = ends_with_two (r ∷ s ∷ later) p
-
--- a cut list after one more packet `p`. If `p` is an own write, it ends the last block, and an
--- empty block follows. Any other packet is added to the last block.
-abbrev pub cut_more : Cut → Packet → Cut
-cut_more (LastBlock block) p = if is_own_write p then Block block p (LastBlock []) else LastBlock (block ++ p ∷ [])
-cut_more (Block block write rest) p = Block block write (cut_more rest p)
 
 -- A packet `p` that decoder `who` does not hear leaves the cut list unchanged. An own write
 -- directly after two copies of itself also leaves the cut list unchanged. Any other own write ends

@@ -1,10 +1,22 @@
 -- The first difference of two lists of packets for a decoder.
-use Rattle.std.specs.Prelude.{ℕ, ◌+◌, ◌≡◌, ◌≢◌, ◌⊎◌, List}
+use Rattle.std.specs.Prelude.{ℕ, ◌+◌, ◌≡◌, ◌≢◌, ◌↔◌, ◌⊎◌, List, Contains}
 use Rattle.dcc_packet.specs.declared.packet.Packet.{Packet}
 use Rattle.dcc_regs.specs.declared.register.Who.{Who}
+use Rattle.dcc_regs.specs.Conflict.{Conflict}
 use Rattle.dcc_order.specs.declared.verdict.Verdict.{Verdict}
 use Rattle.dcc_order.specs.declared.verdict.Verdict.TheVariants.{Alike, Writes, Members, Order}
-use Rattle.dcc_order.specs.AlikeLists.{Cut, LastBlock, Block, cut_for, SameMembers, SameOrder}
+use Rattle.dcc_order.specs.AlikeLists.{Cut, LastBlock, Block, cut_for, turns}
+
+-- blocks `left` and `right` have the same set of packets. This is the field `members` of
+-- `AlikeBlocks`.
+abbrev pub SameMembers : List Packet → List Packet → Type 0
+SameMembers left right = (p : Packet) → Contains left p ↔ Contains right p
+
+-- every two conflicting packets of block `left` alternate in the same way in blocks `left` and
+-- `right`. This is the field `order` of `AlikeBlocks`.
+abbrev pub SameOrder : List Packet → List Packet → Type 0
+SameOrder left right =
+    (p q : Packet) → Contains left p → Contains left q → Conflict p q → turns p q left ≡ turns p q right
 
 -- `verdict` names the difference of the blocks `left` and `right`, which have number `k`. If the
 -- blocks are alike, the property `further` holds.

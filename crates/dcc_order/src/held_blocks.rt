@@ -2,7 +2,7 @@
 
 ghost use Rattle.std.specs.Prelude.{◌≡◌, ◌↔◌, ◌+◌, ◌<◌, ◌^◌, ◌++◌, ◌∷◌, [], true, false, IsTrue, OnOk, OnErr, length};
 ghost use Rattle.std.specs.Prelude.{Contains};
-ghost use Rattle.dcc_order.specs.AlikeLists.{SameMembers, SameOrder};
+ghost use Rattle.dcc_order.specs.Verdicts.{SameMembers, SameOrder};
 ghost use Rattle.dcc_order.specs.Held.{nothing_held};
 
 use crate::frame_number::number_of_frame;

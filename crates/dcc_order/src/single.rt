@@ -5,7 +5,8 @@ ghost use Rattle.dcc_wire.specs.Framing.{StandsFor};
 ghost use Rattle.dcc_packet.specs.declared.packet.Packet.{Packet};
 ghost use Rattle.dcc_regs.specs.Result.{HasHeard, RegisterMap};
 ghost use Rattle.dcc_regs.specs.declared.register.Who.{Who};
-ghost use Rattle.dcc_order.specs.Hearing.{AreSpelled, HasHeardHalves, frames_of, whole_track};
+ghost use Rattle.dcc_order.specs.Fleets.{AreShownBy};
+ghost use Rattle.dcc_order.specs.Hearing.{HasHeardHalves, whole_track};
 ghost use Rattle.dcc_order.specs.HearingLaws.{AlikeHalves};
 
 use dcc_packet::Packet;
@@ -75,7 +76,7 @@ fn hear_its_half<D: Decoder>(decoder: &mut D, framer: &mut Framer, us: u16)
 /// Applies the packet of the outcome `seen` to a decoder. If the outcome is no packet, the decoder
 /// does not change.
 fn take_seen<D: Decoder>(decoder: &mut D, seen: &Seen)
-    ensures { (shown : List Packet) × AreSpelled shown (frames_of seen.now)
+    ensures { (shown : List Packet) × AreShownBy shown seen.now
         × HasHeard shown (D.who decoder.old) (D.registers decoder.old) (D.who decoder.new) (D.registers decoder.new) }
 {
     match seen {

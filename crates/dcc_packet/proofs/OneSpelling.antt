@@ -1,6 +1,6 @@
 -- No two packets have one spelling.
 use Rattle.std.proofs.Common.{◌≡◌, ℕ, ◌+◌, ◌-◌, ◌*◌, ◌/◌, ◌%◌, ◌<◌, ◌≤◌, Bool, List, [], ◌∷◌, length, ap, refl, sym}
-use Rattle.std.proofs.Common.{arith, inl, inr}
+use Rattle.std.proofs.Common.{arith, inl, inr, ◌++◌}
 use Rattle.dcc_packet.specs.declared.address.Address.{Address}
 use Rattle.dcc_packet.specs.declared.address.Address.TheVariants.{Broadcast, Short, Long}
 use Rattle.dcc_packet.specs.declared.cv.CvNumber.{CvNumber}
@@ -11,7 +11,7 @@ use Rattle.dcc_packet.specs.declared.instruction.What.{What}
 use Rattle.dcc_packet.specs.declared.instruction.What.TheVariants.{Reset, Speed28, Speed128, Functions, BinaryState}
 use Rattle.dcc_packet.specs.declared.instruction.What.TheVariants.{CvWrite, CvVerify, CvBitWrite, CvBitVerify}
 use Rattle.dcc_packet.specs.Group.{group_max}
-use Rattle.dcc_packet.specs.Rows.{bit, function_bytes, cv_bytes, instruction_bytes, loco_bytes, idle_bytes}
+use Rattle.dcc_packet.specs.Rows.{bit, function_bytes, cv_bytes, instruction_bytes, address_bytes}
 use Rattle.dcc_packet.specs.Rows.{accessory_bytes, signal_bytes}
 use Rattle.dcc_packet.specs.declared.packet.Packet.{Packet}
 use Rattle.dcc_packet.specs.declared.packet.Packet.TheVariants.{Idle, Loco, Accessory, Signal, Other}
@@ -148,6 +148,10 @@ address_to Broadcast = 1
 address_to (Short a) = 128
 address_to (Long a) = 232
 
+-- the bytes of a packet to locomotive decoders
+abbrev loco_bytes : Address → What → List ℕ
+loco_bytes to what = address_bytes to ++ instruction_bytes what
+
 address_leads : (a : Address) (w : What)
     → (address_from a ≤ head (loco_bytes a w)) × (head (loco_bytes a w) < address_to a)
 address_leads Broadcast w = (omega arith, omega arith)
@@ -170,7 +174,7 @@ one_loco a b w v e = absurd (omega (arith, address_leads a w, address_leads b v,
 
 -- the bytes before the error byte
 abbrev bytes_of : Packet → List ℕ
-bytes_of Idle = idle_bytes
+bytes_of Idle = 0xFF ∷ 0 ∷ []
 bytes_of (Loco to what) = loco_bytes to what
 bytes_of (Accessory board output on) = accessory_bytes board output on
 bytes_of (Signal signal aspect) = signal_bytes signal aspect
@@ -223,11 +227,11 @@ one_packet (Signal a x) (Signal b y) e =
     let aspect : x ≡ y = cc in
     cc
 one_packet (Other a) (Other b) e = ap Other (same_other a b e)
-one_packet (Other a) Idle e = absurd (a.no_row (idle_bytes, inl refl, e))
+one_packet (Other a) Idle e = absurd (a.no_row (0xFF ∷ 0 ∷ [], inl refl, e))
 one_packet (Other a) (Loco b v) e = absurd (a.no_row (loco_bytes b v, inr (inl (b, v, refl)), e))
 one_packet (Other a) (Accessory b o x) e = absurd (a.no_row (accessory_bytes b o x, inr (inr (inl (b, o, x, refl))), e))
 one_packet (Other a) (Signal b x) e = absurd (a.no_row (signal_bytes b x, inr (inr (inr (b, x, refl))), e))
-one_packet Idle (Other a) e = absurd (a.no_row (idle_bytes, inl refl, sym e))
+one_packet Idle (Other a) e = absurd (a.no_row (0xFF ∷ 0 ∷ [], inl refl, sym e))
 one_packet (Loco b v) (Other a) e = absurd (a.no_row (loco_bytes b v, inr (inl (b, v, refl)), sym e))
 one_packet (Accessory b o x) (Other a) e =
     absurd (a.no_row (accessory_bytes b o x, inr (inr (inl (b, o, x, refl))), sym e))

@@ -80,14 +80,7 @@ instruction_bytes (CvBitWrite cv place one) = cv_bytes 0xE8 cv.number (0xF0 + 8 
 -- bit manipulation, verify: 111010VV VVVVVVVV 1110DBBB, D is the bit, BBB is its place
 instruction_bytes (CvBitVerify cv place one) = cv_bytes 0xE8 cv.number (0xE0 + 8 * bit one + place.place)
 
--- PACKETS
--- idle (S-9.2; RCN-211): 11111111 00000000
-abbrev pub idle_bytes : List ℕ
-idle_bytes = 0xFF ∷ 0 ∷ []
-
--- packets to locomotive decoders (S-9.2.1; RCN-211): an address and an instruction
-abbrev pub loco_bytes : Address → What → List ℕ
-loco_bytes to what = address_bytes to ++ instruction_bytes what
+-- PACKETS. The bytes of the idle packet, and of packets to locomotive decoders, are in `spelling`.
 
 -- basic accessory packet (S-9.2.1; RCN-213): 10AAAAAA 1NNNCDDD. A is the six low bits of the board
 -- number, and N is the complement of its three high bits. C is 1 for on, and DDD is the output.
@@ -103,11 +96,12 @@ signal_bytes address aspect =
     let board : ℕ = address.number / 4 in
     (0x80 + board % 64) ∷ (16 * (7 - board / 64) + 2 * (address.number % 4) + 1) ∷ aspect ∷ []
 
--- `bytes` are the bytes of some row of the table
+-- `bytes` are the bytes of some row of the table: the idle packet, a packet to locomotive decoders,
+-- a basic accessory packet, or an extended accessory packet
 abbrev pub IsPacketRow : List ℕ → Type 0
 IsPacketRow bytes =
-    (bytes ≡ idle_bytes)
-    ⊎ ((to : Address) × (what : What) × (bytes ≡ loco_bytes to what))
+    (bytes ≡ 0xFF ∷ 0 ∷ [])
+    ⊎ ((to : Address) × (what : What) × (bytes ≡ address_bytes to ++ instruction_bytes what))
     ⊎ ((board : Board) × (output : Output) × (on : Bool) × (bytes ≡ accessory_bytes board output on))
     ⊎ ((address : SignalAddress) × (aspect : ℕ) × (bytes ≡ signal_bytes address aspect))
 

@@ -1,5 +1,5 @@
 -- The frame that encodes a packet.
-use Rattle.std.specs.Prelude.{List, ℕ, ◌<◌}
+use Rattle.std.specs.Prelude.{List, [], ◌∷◌, ◌++◌, ℕ, ◌<◌}
 use Rattle.hex.specs.Hex.{IsBytes}
 use Rattle.dcc_wire.specs.Frames.{with_error_byte}
 use Rattle.dcc_packet.specs.declared.instruction.What.{What}
@@ -7,13 +7,15 @@ use Rattle.dcc_packet.specs.declared.instruction.What.TheVariants.{Reset, Speed2
 use Rattle.dcc_packet.specs.declared.instruction.What.TheVariants.{CvWrite, CvVerify, CvBitWrite, CvBitVerify}
 use Rattle.dcc_packet.specs.declared.packet.Packet.{Packet}
 use Rattle.dcc_packet.specs.declared.packet.Packet.TheVariants.{Idle, Loco, Accessory, Signal, Other}
-use Rattle.dcc_packet.specs.Rows.{idle_bytes, loco_bytes, accessory_bytes, signal_bytes}
+use Rattle.dcc_packet.specs.Rows.{address_bytes, instruction_bytes, accessory_bytes, signal_bytes}
 
 -- the frame of a packet: the bytes of its row of the table and their error byte. An `Other` packet
 -- fits no row. Its frame is stored in the packet.
 abbrev pub spelling : Packet → List ℕ
-spelling Idle = with_error_byte idle_bytes
-spelling (Loco to what) = with_error_byte (loco_bytes to what)
+-- idle (S-9.2; RCN-211): 11111111 00000000
+spelling Idle = with_error_byte (0xFF ∷ 0 ∷ [])
+-- packets to locomotive decoders (S-9.2.1; RCN-211): an address and an instruction
+spelling (Loco to what) = with_error_byte (address_bytes to ++ instruction_bytes what)
 spelling (Accessory board output on) = with_error_byte (accessory_bytes board output on)
 spelling (Signal address aspect) = with_error_byte (signal_bytes address aspect)
 spelling (Other other) = other.frame

@@ -1,6 +1,6 @@
 //! Functions that return the packet that a frame encodes.
 ghost use Rattle.std.specs.Prelude.{◌≡◌, ◌≢◌, ◌≤◌, ◌<◌, ◌++◌, ◌∷◌, [], List, IfSome, IfNone, Bool, ℕ};
-ghost use Rattle.dcc_packet.specs.Rows.{instruction_bytes, address_bytes, loco_bytes, accessory_bytes, signal_bytes};
+ghost use Rattle.dcc_packet.specs.Rows.{instruction_bytes, address_bytes, accessory_bytes, signal_bytes};
 ghost use Rattle.dcc_packet.specs.Rows.{IsPacketRow, HasRow};
 ghost use Rattle.dcc_wire.specs.Frames.{IsFrame, with_error_byte};
 ghost use Rattle.dcc_packet.specs.Spelling.{spelling, BytesFit};
@@ -82,7 +82,8 @@ fn long_address(high: u8, low: u8) -> Address
 #[inline(always)]
 fn loco_row(bytes: &[u8]) -> Option<Packet>
     ensures found { IfSome result (λ packet. spelling packet ≡ with_error_byte bytes.now) }
-    ensures none { IfNone result ((to : Address) (what : What) → loco_bytes to what ≢ bytes.now) }
+    ensures none { IfNone result ((to : Address) (what : What)
+        → address_bytes to ++ instruction_bytes what ≢ bytes.now) }
 {
     match read_loco(bytes) {
         Some((to, what)) => Some(Packet::Loco { to, what }),
@@ -95,8 +96,9 @@ fn loco_row(bytes: &[u8]) -> Option<Packet>
 /// RCN-212, RCN-214).
 #[inline]
 pub fn read_loco(bytes: &[u8]) -> Option<(Address, What)>
-    ensures found { IfSome result (λ told. loco_bytes told.0 told.1 ≡ bytes.now) }
-    ensures none { IfNone result ((to : Address) (what : What) → loco_bytes to what ≢ bytes.now) }
+    ensures found { IfSome result (λ told. address_bytes told.0 ++ instruction_bytes told.1 ≡ bytes.now) }
+    ensures none { IfNone result ((to : Address) (what : What)
+        → address_bytes to ++ instruction_bytes what ≢ bytes.now) }
 {
     let (to, rest) = address(bytes)?;
     let what = instruction(rest)?;

@@ -12,8 +12,7 @@ use Rattle.dcc_regs.specs.declared.register.Register.{Register}
 use Rattle.dcc_regs.specs.declared.register.Register.TheVariants.{Out, Position, Aspect}
 use Rattle.dcc_regs.specs.declared.register.Value.TheVariants.{Flag, Number}
 use Rattle.dcc_regs.specs.Heard.{hears}
-use Rattle.dcc_regs.specs.Outputs.{out_set, position_set, aspect_set}
-use Rattle.dcc_regs.specs.Sets.{side}
+use Rattle.dcc_regs.specs.Outputs.{out_set, position_set, aspect_set, side}
 use Rattle.dcc_regs.specs.Result.{result_of_heard, step}
 use Rattle.dcc_regs.specs.Board.{BoardContent, TakesPacket, board_registers}
 use Rattle.dcc_regs.specs.Possible.{IsPossible, may_hold}

@@ -1,5 +1,5 @@
 -- The bits of CVs change only by writes that take effect.
-use Rattle.std.proofs.Common.{◌≡◌, ℕ, Bool, true, false, List, [], ◌∷◌, ◌++◌, refl, sym, ◌∙◌, ap}
+use Rattle.std.proofs.Common.{◌≡◌, ℕ, Bool, true, false, List, [], ◌∷◌, ◌++◌, refl, sym, ◌∙◌, ap, ap₂}
 use Rattle.std.specs.Prelude.{not, ◌&&◌, ◌==◌, ◌⊎◌, Option, None, Some, if◌then◌else◌}
 use mathlib.Core.Logic.{inl, inr}
 use Rattle.std.proofs.lemmas.Bool.Decides.{Decides-eqb}
@@ -11,14 +11,16 @@ use Rattle.dcc_regs.specs.declared.register.Register.TheVariants.{CvBit, Pending
 use Rattle.dcc_regs.specs.declared.register.Value.{Value}
 use Rattle.dcc_regs.specs.declared.register.Value.TheVariants.{Flag, Pending as PendingValue}
 use Rattle.dcc_regs.specs.Heard.{hears, heard}
-use Rattle.dcc_regs.specs.Writes.{CvChange, Byte, OneBit, change_of, is_own_write, bit_by, bit_set}
-use Rattle.dcc_regs.specs.Result.{RegisterMap, is_pending, left_pending, result, step}
-use Rattle.dcc_regs.specs.Setting.{value_over}
+use Rattle.dcc_regs.specs.Writes.{CvChange, Byte, OneBit, change_of, is_own_write, bit_set}
+use Rattle.dcc_regs.specs.Inner.WriteParts.{bit_by, is_pending}
+use Rattle.dcc_regs.specs.Result.{RegisterMap, is_effective, result, step}
+use Rattle.dcc_regs.specs.Setting.{left_pending, value_over}
 use Rattle.dcc_regs.specs.Safety.{SetByWrite, SetByTwoCopies, CvsChangeByWrites, CvsChangeByTwoCopies}
 use Rattle.dcc_regs.specs.Safety.{CvsStayWithoutWrites, ReadOnlyCvsStay}
 use Rattle.dcc_regs.proofs.InParts.{result-append, result-nothing}
 use Rattle.dcc_regs.proofs.RegisterStep.{step-sets, step-keeps}
 use Rattle.dcc_regs.proofs.SafetyLemmas.{calm_parts}
+use Rattle.dcc_regs.proofs.WritesInParts.{effective_in_parts, set_by_change}
 
 pending_is : (held : Option Value) (p : Packet) → is_pending held p ≡ true → held ≡ Some (PendingValue (Some p))
 pending_is (Some (PendingValue (Some before))) p e =
@@ -41,6 +43,10 @@ step_changes who m p n k =
     by_tests (hears who p) (is_own_write p) (is_pending (m PendingRegister) p) (bit_set p n k) (m (CvBit n k)) refl refl
     refl refl refl
   where
+    effective : (o w : Bool) → is_own_write p ≡ o → is_pending (m PendingRegister) p ≡ w
+        → is_effective (m PendingRegister) p ≡ (o && w)
+    effective o w b c = effective_in_parts (m PendingRegister) p ∙ ap₂ (λ o w. o && w) b c
+
     by_tests : (h o w : Bool) (set : Option Bool) (held : Option Value) → hears who p ≡ h → is_own_write p ≡ o
         → is_pending (m PendingRegister) p ≡ w → bit_set p n k ≡ set → m (CvBit n k) ≡ held
         → SetsBit who m p n k ⊎ (step who m p (CvBit n k) ≡ m (CvBit n k))
@@ -51,14 +57,17 @@ step_changes who m p n k =
           pending = pending_is (m PendingRegister) p c;
           value = value;
           sets = d;
-          now = step-sets who m p (CvBit n k) ∙ rw (a, b, c, d, e) refl;
+          now = step-sets who m p (CvBit n k) ∙ rw (a, effective true true b c, d, e) refl;
         })
     by_tests true true true (Some value) None a b c d e =
-        inr (step-sets who m p (CvBit n k) ∙ rw (a, b, c, d, e) refl)
+        inr (step-sets who m p (CvBit n k) ∙ rw (a, effective true true b c, d, e) refl)
     by_tests false o w set held a b c d e = inr (step-sets who m p (CvBit n k) ∙ rw a refl)
-    by_tests true false w set held a b c d e = inr (step-keeps who m p (CvBit n k) (rw b refl))
-    by_tests true true false set held a b c d e = inr (step-keeps who m p (CvBit n k) (rw (b, c) refl))
-    by_tests true true true None held a b c d e = inr (step-keeps who m p (CvBit n k) (rw (b, c, d) refl))
+    by_tests true false w set held a b c d e =
+        inr (step-keeps who m p (CvBit n k) (rw (effective false w b c) refl))
+    by_tests true true false set held a b c d e =
+        inr (step-keeps who m p (CvBit n k) (rw (effective true false b c) refl))
+    by_tests true true true None held a b c d e =
+        inr (step-keeps who m p (CvBit n k) (rw (effective true true b c, d) refl))
 
 -- the packets set a bit by a write, or they leave it
 set_or_kept : (who : Who) (m : RegisterMap) (l : List Packet) (n k : ℕ)
@@ -219,5 +228,7 @@ read_only_cvs_stay who start l n k r = by_case (set_or_kept who start l n k)
     by_case : SetByWrite who start l n k ⊎ (result who start l (CvBit n k) ≡ start (CvBit n k))
         → result who start l (CvBit n k) ≡ start (CvBit n k)
     by_case (inl w) =
-        let apart : None ≡ Some w.value = sym (read_only_unset (change_of w.write) n k r) ∙ w.sets in absurd (cc)
+        let apart : None ≡ Some w.value =
+        sym (set_by_change w.write n k ∙ read_only_unset (change_of w.write) n k r) ∙ w.sets in
+        absurd (cc)
     by_case (inr kept) = kept

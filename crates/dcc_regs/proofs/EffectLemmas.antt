@@ -14,8 +14,8 @@ use Rattle.dcc_regs.specs.declared.register.Value.TheVariants.{Speed as SpeedVal
 use Rattle.dcc_regs.specs.Speeds.{speed_set, direction_set}
 use Rattle.dcc_regs.specs.FunctionBits.{function_set}
 use Rattle.dcc_regs.specs.States.{state_set}
-use Rattle.dcc_regs.specs.Outputs.{out_set, position_set, aspect_set}
-use Rattle.dcc_regs.specs.Sets.{sets, side, SetsNothing}
+use Rattle.dcc_regs.specs.Outputs.{out_set, position_set, aspect_set, side}
+use Rattle.dcc_regs.specs.Sets.{sets, SetsNothing}
 use Rattle.dcc_regs.specs.Effects.{Differ, effect_on, masked_bit, where_one}
 use Rattle.dcc_regs.specs.Inner.SetsByKind.{sets_by_kind}
 use Rattle.dcc_regs.proofs.OneTable.{same_table}

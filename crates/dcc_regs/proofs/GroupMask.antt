@@ -1,9 +1,9 @@
 -- The mask of a function group, and its bits.
 use Rattle.std.proofs.Common.{◌≡◌, ℕ, zero, suc, ◌+◌, ◌-◌, ◌*◌, ◌/◌, ◌%◌, ◌^◌, ◌<◌, ◌≤◌, max, Bool, true, false}
 use Rattle.std.proofs.Common.{refl, sym, ◌∙◌, ap, arith, bit_and, bit_or}
-use Rattle.std.specs.Prelude.{◌==◌, ◌&&◌, nat_le, nat_lt, None, Some, option_map, if◌then◌else◌}
+use Rattle.std.specs.Prelude.{◌&&◌, nat_le, nat_lt, None, Some, option_map, if◌then◌else◌}
 use Rattle.std.specs.Int.{bit_at}
-use Rattle.std.proofs.lemmas.Bool.{leb-true, leb-false, ltb-true, ltb-false, ne_eqb}
+use Rattle.std.proofs.lemmas.Bool.{leb-true, leb-false, ltb-true, ltb-false}
 use Rattle.std.proofs.lemmas.Nat.{and_le_r, shl_whole, pow_pos}
 use Rattle.std.proofs.lemmas.Nat.Bits.{bit_at_and, bit_at_or, bit_at-zero, bit_at_ones, bit_at_above}
 use Rattle.std.proofs.lemmas.Nat.Bits.{bit_at_ones_above, bit_at_cat_low, bit_at_cat_high}
@@ -13,8 +13,10 @@ use Rattle.dcc_packet.specs.declared.functions.Group.TheVariants.{F0}
 use Rattle.dcc_packet.specs.declared.functions.GroupBits.{GroupBits}
 use Rattle.dcc_packet.specs.Bits.{is_one}
 use Rattle.dcc_regs.specs.Effects.{masked_bit}
-use Rattle.dcc_regs.specs.FunctionBits.{count_of, first_function, group_bit, place_of_f0}
+use Rattle.dcc_regs.specs.FunctionBits.{function_place, group_bit}
+use Rattle.dcc_regs.specs.Inner.GroupParts.{count_of, first_function}
 use Rattle.dcc_regs.specs.declared.register.SpeedMode.{SpeedMode}
+use Rattle.dcc_regs.specs.declared.register.SpeedMode.TheVariants.{Steps28}
 
 -- what is shifted up begins at its place
 shifted_from : (d first n : ℕ) → first ≤ n → bit_at (d * 2 ^ first) n ≡ bit_at d (n - first)
@@ -107,19 +109,13 @@ first_place : (group : Group) → (1 ≤ first_function group) × (first_functio
 first_place F0 = (omega arith, omega arith)
 first_place group = (omega arith, omega arith)
 
-not_zero : (n : ℕ) → 1 ≤ n → (n == 0) ≡ false
-not_zero n some = ne_eqb n 0 (λ none. absurd (omega arith))
-
-group_of : (mode : SpeedMode) (bits : GroupBits) (n : ℕ) → 1 ≤ n
-    → group_bit mode bits n
-    ≡ option_map (is_one bits.bits)
-    (if nat_le (first_function bits.group) n && nat_lt n (first_function bits.group + count_of bits.group)
-    then Some (n - first_function bits.group) else None)
-group_of mode bits n some =
-    ap (λ (lowest : Bool). option_map (is_one bits.bits)
-    (if lowest then place_of_f0 mode bits.group
-    else if nat_le (first_function bits.group) n && nat_lt n (first_function bits.group + count_of bits.group)
-    then Some (n - first_function bits.group) else None)) (not_zero n some)
+-- the place of a function other than F0
+place_of : (mode : SpeedMode) (group : Group) (n : ℕ)
+    → function_place mode group (suc n)
+    ≡ (if nat_le (first_function group) (suc n) && nat_lt (suc n) (first_function group + count_of group)
+    then Some (suc n - first_function group) else None)
+place_of Steps28 F0 n = refl
+place_of mode group n = refl
 
 below_two : (has : Bool) → (if has then 1 else 0) < 2
 below_two true = omega arith
@@ -127,7 +123,7 @@ below_two false = omega arith
 
 -- the mask and the bits of a group, with F0 at the lowest place
 group_by : (mode : SpeedMode) (bits : GroupBits) (ones n : ℕ) (has : Bool) → ones ≡ 2 ^ count_of bits.group - 1
-    → ones < 256 → bits.bits < 256 → place_of_f0 mode bits.group ≡ (if has then Some 4 else None)
+    → ones < 256 → bits.bits < 256 → function_place mode bits.group 0 ≡ (if has then Some 4 else None)
     → masked_bit (beside ones (first_function bits.group) (if has then 1 else 0))
     (beside bits.bits (first_function bits.group) (bit_and (bits.bits / 16) (if has then 1 else 0))) n
     ≡ group_bit mode bits n
@@ -144,7 +140,7 @@ group_by mode bits ones (suc n) has is byte small f0 =
     (bit_and (bits.bits / 16) (if has then 1 else 0)) (suc n)
     (nat_le (first_function bits.group) (suc n)) (nat_lt (suc n) (first_function bits.group + count_of bits.group))
     small byte is fits.1 low (omega arith) (omega arith) refl refl
-    ∙ sym (group_of mode bits (suc n) (omega arith))
+    ∙ ap (option_map (is_one bits.bits)) (sym (place_of mode bits.group n))
 
 as_number : (has : Bool) → bool_byte has ≡ (if has then 1 else 0)
 as_number true = refl
@@ -153,7 +149,7 @@ as_number false = refl
 pub group_masked : (mode : SpeedMode) (bits : GroupBits) (first b high ones low n : ℕ) (has : Bool)
     → first ≡ first_function bits.group → b ≡ bits.bits → high ≡ bits.bits / 16 → ones ≡ 2 ^ count_of bits.group - 1
     → ones < 256 → bits.bits < 256 → low ≡ bool_byte has
-    → place_of_f0 mode bits.group ≡ (if has then Some 4 else None)
+    → function_place mode bits.group 0 ≡ (if has then Some 4 else None)
     → masked_bit (bit_or (ones * 2 ^ first % 340282366920938463463374607431768211456) low)
     (bit_or (b * 2 ^ first % 340282366920938463463374607431768211456) (bit_and high low)) n
     ≡ group_bit mode bits n

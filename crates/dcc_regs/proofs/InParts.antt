@@ -2,11 +2,13 @@
 use Rattle.std.proofs.Common.{◌≡◌, ℕ, List, [], ◌∷◌, ◌++◌, map, refl, sym, ◌∙◌, ap, append_assoc}
 use Rattle.std.proofs.lemmas.List.{append-nil, map-append}
 use Rattle.std.proofs.lemmas.List.Elements.{filter-append, filter_map-append}
-use Rattle.std.specs.List.{filter_map}
+use Rattle.std.proofs.lemmas.List.Sums.{fold-append}
+use Rattle.std.specs.List.{filter_map, scan}
 use Rattle.std.specs.Prelude.{Option, None, Some}
 use mathlib.Core.Path.{fun_ext}
 use Rattle.dcc_packet.specs.declared.packet.Packet.{Packet}
 use Rattle.dcc_regs.specs.declared.register.Who.{Who}
+use Rattle.dcc_regs.specs.declared.register.SpeedMode.{SpeedMode}
 use Rattle.dcc_regs.specs.declared.register.Register.{Register}
 use Rattle.dcc_regs.specs.declared.register.Register.TheVariants.{CvBit}
 use Rattle.dcc_regs.specs.declared.register.Register.TheVariants.{Pending as PendingRegister}
@@ -14,19 +16,19 @@ use Rattle.dcc_regs.specs.declared.register.Value.{Value}
 use Rattle.dcc_regs.specs.declared.register.Value.TheVariants.{Pending as PendingValue}
 use Rattle.dcc_regs.specs.Heard.{heard, hears}
 use Rattle.dcc_regs.specs.Sets.{sets}
-use Rattle.dcc_regs.specs.Result.{RegisterMap, last_or, set_in_turn, places, places_from, left_pending, pending_after}
-use Rattle.dcc_regs.specs.Result.{effective_set, cv_bit_after, mode_of, mode_after, plain_after, result_of_heard}
-use Rattle.dcc_regs.specs.Result.{result, HasHeard}
+use Rattle.dcc_regs.specs.Result.{RegisterMap, set_in_turn, places, pending_after}
+use Rattle.dcc_regs.specs.Result.{cv_bit_after, mode_of, result_of_heard, result, HasHeard}
+use Rattle.dcc_regs.specs.Setting.{effective_set, left_pending}
 use Rattle.dcc_regs.specs.Laws.{OneMorePacketHeard}
-
-last_or-append : (start : Value) (vs ws : List Value) → last_or start (vs ++ ws) ≡ last_or (last_or start vs) ws
-last_or-append start [] ws = refl
-last_or-append start (v ∷ vs) ws = last_or-append v vs ws
 
 set_in_turn-append : (start : Option Value) (vs ws : List Value)
     → set_in_turn start (vs ++ ws) ≡ set_in_turn (set_in_turn start vs) ws
 set_in_turn-append None vs ws = refl
-set_in_turn-append (Some start) vs ws = ap Some (last_or-append start vs ws)
+set_in_turn-append (Some start) vs ws = ap Some (fold-append (λ before now. now) start vs ws)
+
+-- a pair for each packet of a list: the packets before it, of which the first are `before`, and the packet
+abbrev places_from : List Packet → List Packet → List (List Packet × Packet)
+places_from = scan (λ before p. before ++ p ∷ []) (λ before p. (before, p))
 
 places_from-append : (before l k : List Packet)
     → places_from before (l ++ k) ≡ places_from before l ++ places_from (before ++ l) k
@@ -70,9 +72,15 @@ cv_bit_after-append start l k cv place =
     (λ at. effective_set (pending_after (result_of_heard start l) at.0) at.1 cv place) (start (CvBit cv place)) l k
     (λ b p. ap (λ held. effective_set held p cv place) (pending_after-append start l b))
 
+abbrev mode_after : RegisterMap → List Packet → SpeedMode
+mode_after start l = mode_of (cv_bit_after start l 29 1)
+
 mode_after-append : (start : RegisterMap) (l k : List Packet)
     → mode_after start (l ++ k) ≡ mode_after (result_of_heard start l) k
 mode_after-append start l k = ap mode_of (cv_bit_after-append start l k 29 1)
+
+abbrev plain_after : RegisterMap → List Packet → Register → Option Value
+plain_after start l r = set_in_turn (start r) (filter_map (λ at. sets (mode_after start at.0) at.1 r) (places l))
 
 plain_after-append : (start : RegisterMap) (l k : List Packet) (r : Register)
     → result_of_heard start l r ≡ plain_after start l r

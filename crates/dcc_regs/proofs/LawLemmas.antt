@@ -19,7 +19,9 @@ use Rattle.dcc_regs.specs.declared.register.Value.TheVariants.{Flag}
 use Rattle.dcc_regs.specs.Heard.{hears}
 use Rattle.dcc_regs.specs.Inner.HearsByAddress.{is_for}
 use Rattle.dcc_regs.proofs.HearsByBytes.{hears_at}
-use Rattle.dcc_regs.specs.Writes.{CvChange, Byte, OneBit, change_of, bit_by, bit_set, is_of_cv29, writes_cv29}
+use Rattle.dcc_regs.specs.Writes.{CvChange, Byte, OneBit, change_of, bit_set, is_of_cv29, writes_cv29}
+use Rattle.dcc_regs.specs.Inner.WriteParts.{bit_by}
+use Rattle.dcc_regs.proofs.WritesInParts.{set_by_change}
 use Rattle.dcc_regs.specs.Result.{is_effective, mode_of}
 use Rattle.dcc_regs.specs.Laws.{ConflictIsMutual, IdleIsUnheard, ModeStays, NoConflictWithItself, OneAddress}
 use Rattle.dcc_regs.specs.Laws.{PacketsAreDecided, ValuesAreDecided, WritesSetNoPlain}
@@ -74,7 +76,7 @@ bit_by-stays (Some (OneBit cv place one)) e = other_bit cv.number place.place _ 
 
 -- a packet that does not write CV29 sets no bit of it
 pub bit_stays : (p : Packet) → writes_cv29 p ≡ false → bit_set p 29 1 ≡ None
-bit_stays p e = bit_by-stays (change_of p) e
+bit_stays p e = set_by_change p 29 1 ∙ bit_by-stays (change_of p) e
 
 none_by : (t : Bool) (o : Option Bool) → o ≡ None → (if t then option_map Flag o else None) ≡ None
 none_by true o e = ap (option_map Flag) e

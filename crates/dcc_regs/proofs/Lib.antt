@@ -7,6 +7,7 @@ pub mod NoteLemmas
 pub mod OneTable
 pub mod LocoStep
 pub mod PossibleLemmas
+pub mod WritesInParts
 pub mod RegisterStep
 pub mod BoardStep
 pub mod MaskLemmas

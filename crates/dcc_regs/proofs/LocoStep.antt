@@ -22,8 +22,8 @@ use Rattle.dcc_regs.specs.Speeds.{speed_set, direction_set}
 use Rattle.dcc_regs.specs.FunctionBits.{function_set}
 use Rattle.dcc_regs.specs.States.{is_binary_state, state_set}
 use Rattle.dcc_regs.specs.Writes.{bit_set, is_own_write}
-use Rattle.dcc_regs.specs.Result.{RegisterMap, set_in_turn, mode_of, is_effective, effective_set, left_pending}
-use Rattle.dcc_regs.specs.Result.{result_of_heard, step}
+use Rattle.dcc_regs.specs.Result.{RegisterMap, set_in_turn, mode_of, is_effective, result_of_heard, step}
+use Rattle.dcc_regs.specs.Setting.{effective_set, left_pending}
 use Rattle.dcc_regs.specs.Loco.{LocoContent, loco_registers, is_byte_write, is_pending_for, is_function, is_cv_bit}
 use Rattle.dcc_regs.specs.Sets.{sets}
 use Rattle.dcc_regs.specs.Inner.SetsByKind.{sets_by_kind}

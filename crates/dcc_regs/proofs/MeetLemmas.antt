@@ -7,11 +7,14 @@ use Rattle.std.proofs.lemmas.Bool.Decides.{nat_tests, Decides-eqb}
 use Rattle.dcc_packet.specs.declared.accessory.Board.{Board}
 use Rattle.dcc_packet.specs.declared.address.Address.{Address}
 use Rattle.dcc_packet.specs.declared.address.Address.TheVariants.{Broadcast, Short, Long}
+use Rattle.dcc_packet.specs.declared.instruction.What.{What}
+use Rattle.dcc_packet.specs.declared.instruction.What.TheVariants.{Reset}
 use Rattle.dcc_packet.specs.declared.packet.Packet.{Packet}
 use Rattle.dcc_packet.specs.declared.packet.Packet.TheVariants.{Loco as ToLoco, Accessory, Signal}
 use Rattle.dcc_regs.specs.declared.register.Who.{Who}
 use Rattle.dcc_regs.specs.declared.register.Who.TheVariants.{Loco as LocoWho, Board as BoardWho}
-use Rattle.dcc_regs.specs.Heard.{hears, is_full_reset, address_of}
+use Rattle.dcc_regs.specs.Heard.{hears, address_of}
+use Rattle.dcc_regs.specs.Outputs.{is_full_reset}
 use Rattle.dcc_regs.specs.Inner.HearsByAddress.{is_for}
 use Rattle.dcc_regs.proofs.HearsByBytes.{hears_at}
 use Rattle.dcc_regs.specs.Inner.ConflictParts.{HeardTogether, meets, both_meet, boards_meet, board_of_packet, some_loco}
@@ -51,6 +54,12 @@ unfolding takes_board
 hears_reset own true = grind (arith, nat_tests)
 hears_reset own false = refl
 
+-- of the instructions to locomotives, a board hears only the reset to all
+pub only_reset : (own : Board) (to : Address) (what : What)
+    → hears (BoardWho own) (ToLoco to what) ≡ is_full_reset to what
+only_reset own Broadcast Reset = refl
+only_reset own to what = refl
+
 hears_signal : (own address : ℕ) (t u : Bool) → (address == 2047) ≡ t → nat_lt address 2044 ≡ u
     → (t || (u && own == address / 4)) ≡ takes_board own (if t || u then Some (address / 4) else None)
 unfolding takes_board
@@ -60,7 +69,7 @@ hears_signal own address false false e f = refl
 
 hears_board : (own : Board) (p : Packet) → hears (BoardWho own) p ≡ takes_board own.number (board_of_packet p)
 unfolding takes_board
-hears_board own (ToLoco to what) = hears_reset own.number (is_full_reset to what)
+hears_board own (ToLoco to what) = only_reset own to what ∙ hears_reset own.number (is_full_reset to what)
 hears_board own (Signal address aspect) =
     hears_signal own.number address.number (address.number == 2047) (nat_lt address.number 2044) refl refl
 hears_board own p = refl

@@ -1,5 +1,5 @@
 -- What a packet sets, by packets and registers, and by kind of register.
-use Rattle.std.proofs.Common.{◌≡◌, ◌/◌, ◌%◌, Bool, true, false, refl, arith}
+use Rattle.std.proofs.Common.{◌≡◌, ◌∙◌, ◌/◌, ◌%◌, ℕ, Bool, true, false, refl, ap, arith}
 use Rattle.std.specs.Prelude.{◌==◌, ◌||◌, ◌&&◌, nat_le, None, Some, option_map, if◌then◌else◌}
 use Rattle.std.proofs.lemmas.Bool.Decides.{nat_tests}
 use Rattle.dcc_packet.specs.declared.address.Address.TheVariants.{Broadcast, Short, Long}
@@ -14,13 +14,17 @@ use Rattle.dcc_regs.specs.declared.register.Register.TheVariants.{State as State
 use Rattle.dcc_regs.specs.declared.register.Register.TheVariants.{Pending as PendingRegister, Out, Position}
 use Rattle.dcc_regs.specs.declared.register.Register.TheVariants.{Aspect}
 use Rattle.dcc_regs.specs.declared.register.Value.TheVariants.{Forward, Flag, Number}
-use Rattle.dcc_regs.specs.Sets.{side, sets}
+use Rattle.dcc_regs.specs.Outputs.{side}
+use Rattle.dcc_regs.specs.Sets.{sets}
 use Rattle.dcc_regs.specs.Inner.SetsByKind.{sets_by_kind}
 
 mapped : {A B : Type 0} (f : A → B) (x : A) (t : Bool) → (if t then Some (f x) else None)
     ≡ option_map f (if t then Some x else None)
 mapped f x true = refl
 mapped f x false = refl
+
+side_of : (n : ℕ) → n % 2 ≡ (if n % 2 == 1 then 1 else 0)
+side_of n = grind (arith, nat_tests)
 
 pub same_table : (mode : SpeedMode) (p : Packet) (r : Register) → sets mode p r ≡ sets_by_kind mode p r
 same_table mode (ToLoco Broadcast Reset) (Function n) = mapped Flag false (nat_le n 68)
@@ -38,8 +42,9 @@ same_table mode (ToLoco to (BinaryState state on)) (StateRegister n) = mapped Fl
     ((nat_le 1 n && nat_le n 127) && (state.number == 0 || n == state.number))
 same_table mode (Accessory board output true) (Out n) = mapped Flag true (n == output.number)
 same_table mode (Accessory board output false) (Out n) = mapped Flag false (n == output.number)
-same_table mode (Accessory board output true) (Position n) = mapped side (output.number % 2 == 1)
-    (n == output.number / 2)
+same_table mode (Accessory board output true) (Position n) =
+    ap (λ one. if n == output.number / 2 then Some (Number one) else None) (side_of output.number)
+    ∙ mapped side (output.number % 2 == 1) (n == output.number / 2)
 same_table mode (Signal address aspect) (Aspect n) = mapped Number aspect
     ((address.number == 2047 && nat_le n 3) || n == address.number % 4)
 same_table mode p SpeedRegister = grind arith

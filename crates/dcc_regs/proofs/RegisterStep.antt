@@ -11,8 +11,8 @@ use Rattle.dcc_regs.specs.declared.register.Value.{Value}
 use Rattle.dcc_regs.specs.declared.register.Value.TheVariants.{Pending as PendingValue}
 use Rattle.dcc_regs.specs.Heard.{hears}
 use Rattle.dcc_regs.specs.Sets.{sets}
-use Rattle.dcc_regs.specs.Result.{RegisterMap, set_in_turn, mode_of, effective_set, left_pending, result_of_heard, step}
-use Rattle.dcc_regs.specs.Setting.{mode_in, set_from, value_over}
+use Rattle.dcc_regs.specs.Result.{RegisterMap, set_in_turn, mode_of, result_of_heard, step}
+use Rattle.dcc_regs.specs.Setting.{effective_set, left_pending, mode_in, set_from, value_over}
 use Rattle.dcc_regs.proofs.InParts.{set_in_turn-nothing}
 use Rattle.dcc_regs.proofs.LocoStep.{step-unheard}
 

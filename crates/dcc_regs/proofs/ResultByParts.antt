@@ -10,10 +10,12 @@ use Rattle.dcc_regs.specs.declared.register.Value.TheVariants.{Flag, Pending as 
 use Rattle.dcc_regs.specs.declared.register.Who.TheVariants.{Loco}
 use Rattle.dcc_regs.specs.Sets.{sets}
 use Rattle.dcc_regs.specs.Writes.{is_own_write, bit_set}
-use Rattle.dcc_regs.specs.Result.{RegisterMap, is_pending, left_pending, result_of_heard}
-use Rattle.dcc_regs.specs.Setting.{mode_in, value_over}
+use Rattle.dcc_regs.specs.Result.{RegisterMap, is_effective, result_of_heard}
+use Rattle.dcc_regs.specs.Inner.WriteParts.{is_pending}
+use Rattle.dcc_regs.specs.Setting.{left_pending, mode_in, value_over}
 use Rattle.dcc_regs.proofs.InParts.{result_of_heard-append, result-nothing}
 use Rattle.dcc_regs.proofs.RegisterStep.{heard-sets, overwritten-none}
+use Rattle.dcc_regs.proofs.WritesInParts.{effective_in_parts}
 
 -- the second of two values that were set one after the other, where it was set
 abbrev pub later_of : {X : Type 0} → Option X → Option X → Option X
@@ -119,8 +121,9 @@ start-next m p = same_state (start (next m p)) (step (start m) p) (heard-sets m 
     at_bit : (r : Register) → bits_only (next m p) r ≡ bits_step (start m) p r
     at_bit (CvBit cv place) =
         heard-sets m p (CvBit cv place)
-        ∙ where_set (is_own_write p && is_pending (m PendingRegister) p) (m (CvBit cv place))
-        (option_map Flag (bit_set p cv place))
+        ∙ where_set (is_effective (m PendingRegister) p) (m (CvBit cv place)) (option_map Flag (bit_set p cv place))
+        ∙ ap (λ t. cond t (value_over (m (CvBit cv place)) (option_map Flag (bit_set p cv place))) (m (CvBit cv place)))
+        (effective_in_parts (m PendingRegister) p)
     at_bit r = none_either (is_own_write p && is_pending (m PendingRegister) p)
 
     at_plain : (r : Register)

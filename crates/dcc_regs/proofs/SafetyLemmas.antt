@@ -18,7 +18,7 @@ use Rattle.dcc_regs.specs.declared.register.Value.TheVariants.{Speed as SpeedVal
 use Rattle.dcc_regs.specs.Heard.{hears, heard}
 use Rattle.dcc_regs.specs.Sets.{sets}
 use Rattle.dcc_regs.specs.Speeds.{speed_set}
-use Rattle.dcc_regs.specs.Result.{RegisterMap, set_in_turn, places, mode_after, result, step}
+use Rattle.dcc_regs.specs.Result.{RegisterMap, cv_bit_after, mode_of, set_in_turn, places, result, step}
 use Rattle.dcc_regs.specs.Setting.{mode_in, set_from, value_over}
 use Rattle.dcc_regs.specs.Safety.{is_stop, is_standing, is_stop_packet, can_move, can_have_step}
 use Rattle.dcc_regs.specs.Safety.{StandingLocoStands, OnlySpeedPacketsMove, LastStopStops}
@@ -123,8 +123,8 @@ stays_some (Some v) vs there = refl
 has_speed : (who : Who) (m : RegisterMap) (l : List Packet) → is_some (m SpeedRegister) ≡ true
     → is_some (result who m l SpeedRegister) ≡ true
 has_speed who m l there =
-    stays_some (m SpeedRegister) (filter_map (λ at. sets (mode_after m at.0) at.1 SpeedRegister) (places (heard who l)))
-    there
+    stays_some (m SpeedRegister)
+    (filter_map (λ at. sets (mode_of (cv_bit_after m at.0 29 1)) at.1 SpeedRegister) (places (heard who l))) there
 
 stop_stands : (who : Who) (m : RegisterMap) (stop : Packet) → is_some (m SpeedRegister) ≡ true → hears who stop ≡ true
     → is_stop_packet stop ≡ true → is_standing (step who m stop SpeedRegister) ≡ true

@@ -1,5 +1,5 @@
 -- The bits of the CVs after the value of the one CV that a packet accesses was replaced.
-use Rattle.std.proofs.Common.{◌≡◌, ◌≢◌, ℕ, ◌-◌, ◌<◌, ◌≤◌, Bool, true, false, List, refl, sym, ◌∙◌, subst, arith}
+use Rattle.std.proofs.Common.{◌≡◌, ◌≢◌, ℕ, ◌-◌, ◌<◌, ◌≤◌, Bool, true, false, List, refl, sym, ◌∙◌, ap, subst, arith}
 use Rattle.std.specs.Prelude.{◌==◌, ◌&&◌, Option, None, Some, option_map, unwrap_or, if◌then◌else◌, length, slice_index}
 use Rattle.std.specs.Prelude.{slice_set}
 use Rattle.std.proofs.lemmas.Bool.Decides.{Decides-eqb}
@@ -16,7 +16,9 @@ use Rattle.dcc_regs.specs.declared.register.Who.TheVariants.{Loco as LocoWho}
 use Rattle.dcc_regs.specs.AccessedCv.{AreStored, accessed_cv, changed_cv}
 use Rattle.dcc_regs.specs.Heard.{hears}
 use Rattle.dcc_regs.specs.Result.{is_effective}
-use Rattle.dcc_regs.specs.Writes.{CvChange, Byte, OneBit, bit_by, change_of, is_of_cv29, writes_cv29}
+use Rattle.dcc_regs.specs.Writes.{CvChange, Byte, OneBit, bit_set, change_of, is_of_cv29, writes_cv29}
+use Rattle.dcc_regs.specs.Inner.WriteParts.{bit_by}
+use Rattle.dcc_regs.proofs.WritesInParts.{set_by_change}
 
 not_same : (n m : ℕ) → n ≢ m → (t : Bool) → (n == m) ≡ t → (n == m) ≡ false
 not_same n m ne true e = absurd (ne ((Decides-eqb n m).0 e))
@@ -27,8 +29,8 @@ other_unset : (change : CvChange) (n k : ℕ) → n ≢ (changed_cv change).numb
 other_unset (Byte cv value) n k ne = rw (not_same n cv.number ne (n == cv.number) refl) refl
 other_unset (OneBit cv place one) n k ne = rw (not_same n cv.number ne (n == cv.number) refl) refl
 
--- what `hear` says of the new value `new` of the CV that `change` writes, if its value was `old`
-abbrev pub Written : Bool → Option CvChange → ℕ → ℕ → Type 0
+-- the new value `new` of the CV that `change` writes, if its value was `old`
+abbrev Written : Bool → Option CvChange → ℕ → ℕ → Type 0
 Written t change old new =
     (cv : CvNumber) (place : ℕ) → option_map changed_cv change ≡ Some cv → place ≤ 7
     → is_one new place ≡ (if t then unwrap_or (bit_by change cv.number place) (is_one old place) else is_one old place)
@@ -72,15 +74,31 @@ pub accessed-unheard : (active : Option Address) (pending : Option Packet) (p : 
     → hears (LocoWho active) p ≡ false → accessed_cv active pending p ≡ None
 accessed-unheard active pending p h = rw h refl
 
+-- what `hear` says of the new value `new` of the CV that packet `p` writes, if its value was `old`
+abbrev pub WrittenBy : Bool → Packet → ℕ → ℕ → Type 0
+WrittenBy t p old new =
+    (cv : CvNumber) (place : ℕ) → option_map changed_cv (change_of p) ≡ Some cv → place ≤ 7
+    → is_one new place ≡ (if t then unwrap_or (bit_set p cv.number place) (is_one old place) else is_one old place)
+
 pub stored_bits : (pending : Option Packet) (p : Packet) (cvs : List ℕ) (old new n k : ℕ) → IsCvs cvs
     → HasValue cvs (heard_cv pending p) old
-    → Written (is_effective (Some (PendingValue pending)) p) (change_of p) old new
+    → WrittenBy (is_effective (Some (PendingValue pending)) p) p old new
     → 1 ≤ n → k ≤ 7
     → is_one (cv_in (with_value cvs (heard_cv pending p) new) n) k
     ≡ (if is_effective (Some (PendingValue pending)) p
-    then unwrap_or (bit_by (change_of p) n k) (is_one (cv_in cvs n) k)
+    then unwrap_or (bit_set p n k) (is_one (cv_in cvs n) k)
     else is_one (cv_in cvs n) k)
-stored_bits pending p = by_effect (is_effective (Some (PendingValue pending)) p) (change_of p)
+stored_bits pending p cvs old new n k all was write low here =
+    by_effect (is_effective (Some (PendingValue pending)) p) (change_of p) cvs old new n k all was
+    (λ cv place is few.
+    write cv place is few
+    ∙ as_set (is_effective (Some (PendingValue pending)) p) (is_one old place) (set_by_change p cv.number place))
+    low here
+    ∙ sym (as_set (is_effective (Some (PendingValue pending)) p) (is_one (cv_in cvs n) k) (set_by_change p n k))
+  where
+    as_set : (t old : Bool) {a b : Option Bool} → a ≡ b
+        → (if t then unwrap_or a old else old) ≡ (if t then unwrap_or b old else old)
+    as_set t old e = ap (λ o. if t then unwrap_or o old else old) e
 
 -- a packet that accesses no CV changes no value
 kept_by : (t : Bool) (change : Option CvChange) (old new : ℕ) → (if t then option_map changed_cv change else None)

@@ -3,8 +3,7 @@ use Rattle.std.specs.Prelude.{◌≡◌, ◌≤◌, ℕ, Bool, false, nat_le, No
 use Rattle.dcc_packet.specs.declared.packet.Packet.{Packet}
 use Rattle.dcc_regs.specs.declared.register.Register.TheVariants.{Out, Position, Aspect}
 use Rattle.dcc_regs.specs.declared.register.Value.TheVariants.{Flag, Number}
-use Rattle.dcc_regs.specs.Outputs.{out_set, position_set, aspect_set}
-use Rattle.dcc_regs.specs.Sets.{side}
+use Rattle.dcc_regs.specs.Outputs.{out_set, position_set, aspect_set, side}
 use Rattle.dcc_regs.specs.Result.{RegisterMap}
 
 -- the content of an accessory decoder. `outs` gives the outputs, `positions` the side of each pair

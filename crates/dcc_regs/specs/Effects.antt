@@ -7,7 +7,7 @@ use Rattle.dcc_regs.specs.declared.register.Register.TheVariants.{Speed as Speed
 use Rattle.dcc_regs.specs.declared.register.Register.TheVariants.{State as StateRegister, Out, Position, Aspect}
 use Rattle.dcc_regs.specs.declared.register.Value.{Value}
 use Rattle.dcc_regs.specs.declared.register.Value.TheVariants.{Speed as SpeedValue, Forward, Flag, Number}
-use Rattle.dcc_regs.specs.Sets.{side}
+use Rattle.dcc_regs.specs.Outputs.{side}
 
 -- `value` if bit `n` of `mask` is one, otherwise `None`
 abbrev pub where_one : {A : Type 0} → ℕ → A → ℕ → Option A

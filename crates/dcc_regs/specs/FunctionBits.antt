@@ -1,5 +1,5 @@
 -- The functions that a packet sets (RCN-212, NMRA S-9.2.1).
-use Rattle.std.specs.Prelude.{ℕ, Bool, false, ◌&&◌, ◌==◌, nat_lt, nat_le, ◌+◌, ◌-◌, ◌%◌, Option, None, Some}
+use Rattle.std.specs.Prelude.{ℕ, zero, Bool, false, ◌&&◌, ◌==◌, nat_lt, nat_le, ◌+◌, ◌-◌, ◌%◌, Option, None, Some}
 use Rattle.std.specs.Prelude.{option_map, if◌then◌else◌}
 use Rattle.dcc_packet.specs.declared.address.Address.TheVariants.{Broadcast}
 use Rattle.dcc_packet.specs.declared.functions.GroupBits.{GroupBits}
@@ -12,47 +12,28 @@ use Rattle.dcc_regs.specs.declared.register.SpeedMode.{SpeedMode}
 use Rattle.dcc_regs.specs.declared.register.SpeedMode.TheVariants.{Steps14, Steps28}
 use Rattle.dcc_packet.specs.Bits.{is_one}
 
--- the number of the function in the lowest bit of a function group. The result is 1 for group F0.
-abbrev pub first_function : Group → ℕ
-first_function F0 = 1
-first_function F5 = 5
-first_function F9 = 9
-first_function F13 = 13
-first_function F21 = 21
-first_function F29 = 29
-first_function F37 = 37
-first_function F45 = 45
-first_function F53 = 53
-first_function F61 = 61
-
--- the number of functions in the bits of a function group, from the lowest bit on. F0 does not
--- count, and is the fifth bit of group F0.
-abbrev pub count_of : Group → ℕ
-count_of F0 = 4
-count_of F5 = 4
-count_of F9 = 4
-count_of F13 = 8
-count_of F21 = 8
-count_of F29 = 8
-count_of F37 = 8
-count_of F45 = 8
-count_of F53 = 8
-count_of F61 = 8
-
--- the place of F0 in the bits of `group` in speed mode `mode`. F0 has a place only in group F0 with
--- 28 steps. With 14 steps F0 is a bit of the speed instruction.
-abbrev pub place_of_f0 : SpeedMode → Group → Option ℕ
-place_of_f0 Steps28 F0 = Some 4
-place_of_f0 mode group = None
+-- the first function and the number of functions in the bits of a function group, from the lowest
+-- bit on. F0, which is the fifth bit of group F0, does not count.
+abbrev pub group_functions : Group → ℕ × ℕ
+group_functions F0 = (1, 4)
+group_functions F5 = (5, 4)
+group_functions F9 = (9, 4)
+group_functions F13 = (13, 8)
+group_functions F21 = (21, 8)
+group_functions F29 = (29, 8)
+group_functions F37 = (37, 8)
+group_functions F45 = (45, 8)
+group_functions F53 = (53, 8)
+group_functions F61 = (61, 8)
 
 -- the place of function `n` in the bits of `group`, or `None` if `group` does not have this
--- function in speed mode `mode`
+-- function in speed mode `mode`. F0 has a place only in group F0 with 28 steps. With 14 steps F0 is
+-- a bit of the speed instruction.
 abbrev pub function_place : SpeedMode → Group → ℕ → Option ℕ
+function_place Steps28 F0 zero = Some 4
 function_place mode group n =
-    if n == 0 then place_of_f0 mode group
-    else if nat_le (first_function group) n && nat_lt n (first_function group + count_of group) then Some
-    (n - first_function group)
-    else None
+    let first : ℕ = (group_functions group).0 in
+    if nat_le first n && nat_lt n (first + (group_functions group).1) then Some (n - first) else None
 
 -- the value of function `n` in the function group `bits`, or `None` if the group does not have this
 -- function

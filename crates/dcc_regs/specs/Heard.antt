@@ -9,7 +9,6 @@ use Rattle.dcc_packet.specs.Spelling.{spelling}
 use Rattle.dcc_packet.specs.Values.{long_of, short_of}
 use Rattle.dcc_packet.specs.declared.address.Address.{Address}
 use Rattle.dcc_packet.specs.declared.address.Address.TheVariants.{Broadcast}
-use Rattle.dcc_packet.specs.declared.instruction.What.{What}
 use Rattle.dcc_packet.specs.declared.instruction.What.TheVariants.{Reset}
 use Rattle.dcc_packet.specs.declared.packet.Packet.{Packet}
 use Rattle.dcc_packet.specs.declared.packet.Packet.TheVariants.{Idle, Loco as ToLoco, Accessory, Signal, Other}
@@ -39,19 +38,15 @@ address_of (ToLoco to what) = Some to
 address_of (Other frame) = frame_address frame.frame
 address_of x = None
 
--- true if an instruction is the reset to the broadcast address. Accessory decoders hear no other
--- instruction to locomotive decoders.
-abbrev pub is_full_reset : Address → What → Bool
-is_full_reset Broadcast Reset = true
-is_full_reset x what = false
-
 -- true if the decoder hears the packet. Locomotive decoders hear `Other` packets to their address,
--- and accessory decoders hear no `Other` packets. All accessory decoders hear packets to board 511
--- and to signal 2047. No accessory decoder has the signals 2044 to 2046.
+-- and accessory decoders hear no `Other` packets. Of the instructions to locomotive decoders,
+-- accessory decoders hear only the reset to the broadcast address. All accessory decoders hear
+-- packets to board 511 and to signal 2047. No accessory decoder has the signals 2044 to 2046.
 abbrev pub hears : Who → Packet → Bool
 hears (Loco active) p = is_sent_to active (spelling p)
 hears (Board own) Idle = false
-hears (Board own) (ToLoco to what) = is_full_reset to what
+hears (Board own) (ToLoco Broadcast Reset) = true
+hears (Board own) (ToLoco to what) = false
 hears (Board own) (Accessory board output on) = own.number == board.number || board.number == 511
 hears (Board own) (Signal address aspect) =
     address.number == 2047 || (nat_lt address.number 2044 && own.number == address.number / 4)

@@ -4,3 +4,5 @@ pub mod Same
 pub mod EffectParts
 pub mod SetsByKind
 pub mod HearsByAddress
+pub mod WriteParts
+pub mod GroupParts

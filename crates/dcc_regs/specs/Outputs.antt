@@ -2,9 +2,20 @@
 -- and aspects (RCN-213).
 use Rattle.std.specs.Prelude.{ℕ, Bool, true, false, ◌&&◌, ◌||◌, ◌==◌, nat_le, ◌/◌, ◌%◌, Option, None, Some}
 use Rattle.std.specs.Prelude.{if◌then◌else◌}
+use Rattle.dcc_packet.specs.declared.address.Address.{Address}
+use Rattle.dcc_packet.specs.declared.address.Address.TheVariants.{Broadcast}
+use Rattle.dcc_packet.specs.declared.instruction.What.{What}
+use Rattle.dcc_packet.specs.declared.instruction.What.TheVariants.{Reset}
 use Rattle.dcc_packet.specs.declared.packet.Packet.{Packet}
 use Rattle.dcc_packet.specs.declared.packet.Packet.TheVariants.{Loco as ToLoco, Accessory, Signal}
-use Rattle.dcc_regs.specs.Heard.{is_full_reset}
+use Rattle.dcc_regs.specs.declared.register.Value.{Value}
+use Rattle.dcc_regs.specs.declared.register.Value.TheVariants.{Number}
+
+-- true if an instruction is the reset to the broadcast address, which turns all outputs off.
+-- Accessory decoders hear no other instruction to locomotive decoders.
+abbrev pub is_full_reset : Address → What → Bool
+is_full_reset Broadcast Reset = true
+is_full_reset x what = false
 
 -- the value to which a packet sets output `n`, true for on. If the packet does not set output `n`,
 -- the result is `None`.
@@ -19,6 +30,10 @@ out_set x n = None
 abbrev pub position_set : Packet → ℕ → Option Bool
 position_set (Accessory board output true) n = if n == output.number / 2 then Some (output.number % 2 == 1) else None
 position_set x n = None
+
+-- the value of a register with the side of a pair of outputs: 1 if `one` is true, otherwise 0
+abbrev pub side : Bool → Value
+side one = Number (if one then 1 else 0)
 
 -- the aspect to which a heard packet sets signal `n` of an accessory decoder. If the packet does
 -- not set signal `n`, the result is `None`.

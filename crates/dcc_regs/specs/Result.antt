@@ -4,7 +4,7 @@
 -- instructions. The other registers come last.
 use Rattle.std.specs.Prelude.{◌≡◌, ℕ, Bool, true, false, ◌&&◌, Option, None, Some, option_map, List, [], ◌∷◌, ◌++◌}
 use Rattle.std.specs.Prelude.{map, if◌then◌else◌}
-use Rattle.std.specs.List.{filter_map}
+use Rattle.std.specs.List.{filter_map, fold, scan}
 use Rattle.dcc_packet.specs.declared.packet.Packet.{Packet}
 use Rattle.dcc_packet.specs.SamePacket.{same}
 use Rattle.dcc_regs.specs.declared.register.Who.{Who}
@@ -23,34 +23,22 @@ use Rattle.dcc_regs.specs.Writes.{is_own_write, bit_set}
 abbrev pub RegisterMap : Type 0
 RegisterMap = Register → Option Value
 
--- the last value of a list, or `start` if the list is empty
-abbrev pub last_or : Value → List Value → Value
-last_or start [] = start
-last_or start (v ∷ vs) = last_or v vs
-
 -- the value of a register that had the value `start`, and was then set to each value of `vs`, one
--- after the other. A register that the decoder does not have stays `None`.
+-- after the other: the last value of `vs`, or `start` if `vs` is empty. A register that the decoder
+-- does not have stays `None`.
 abbrev pub set_in_turn : Option Value → List Value → Option Value
-set_in_turn start vs = option_map (λ v. last_or v vs) start
+set_in_turn start vs = option_map (λ v. fold (λ before now. now) v vs) start
 
--- a pair for each packet of a list: the packets before it, and the packet. The packets `before`
--- come before the list.
-abbrev pub places_from : List Packet → List Packet → List (List Packet × Packet)
-places_from before [] = []
-places_from before (p ∷ ps) = (before, p) ∷ places_from (before ++ p ∷ []) ps
-
+-- a pair for each packet of a list: the packets before it in the list, and the packet
 abbrev pub places : List Packet → List (List Packet × Packet)
-places = places_from []
-
--- the pending write after a decoder has heard packet `p`. The result is `p` if `p` is an own write,
--- otherwise `None`.
-abbrev pub left_pending : Packet → Option Packet
-left_pending p = if is_own_write p then Some p else None
+places = scan (λ before p. before ++ p ∷ []) (λ before p. (before, p)) []
 
 -- the register Pending after a decoder has heard the packets `l`. Before these packets, its
--- registers were `start`.
+-- registers were `start`. Each packet sets the register: to the packet if it is an own write,
+-- otherwise to `None`.
 abbrev pub pending_after : RegisterMap → List Packet → Option Value
-pending_after start l = set_in_turn (start PendingRegister) (map (λ p. PendingValue (left_pending p)) l)
+pending_after start l =
+    set_in_turn (start PendingRegister) (map (λ p. PendingValue (if is_own_write p then Some p else None)) l)
 
 -- true if the packet `before`, which comes directly before the packet `p`, equals `p`. If there is
 -- no packet before `p`, the result is false.
@@ -58,20 +46,11 @@ abbrev pub is_repeated : Option Packet → Packet → Bool
 is_repeated None p = false
 is_repeated (Some before) p = same before p
 
--- true if the register Pending, with the value `held`, holds a packet that equals `p`
-abbrev pub is_pending : Option Value → Packet → Bool
-is_pending (Some (PendingValue before)) p = is_repeated before p
-is_pending held p = false
-
 -- true if `p` is an own write, and the register Pending, with the value `held`, holds a packet that
 -- equals `p`. Then the write takes effect.
 abbrev pub is_effective : Option Value → Packet → Bool
-is_effective held p = is_own_write p && is_pending held p
-
--- the value to which `p` sets bit `place` of CV `cv`, if the register Pending has the value `held`.
--- The result is `None` if `p` does not write this bit, or if the write does not take effect.
-abbrev pub effective_set : Option Value → Packet → ℕ → ℕ → Option Value
-effective_set held p cv place = if is_effective held p then option_map Flag (bit_set p cv place) else None
+is_effective (Some (PendingValue before)) p = is_own_write p && is_repeated before p
+is_effective held p = false
 
 -- bit `place` of CV `cv` after a decoder has heard the packets `l`. The bit has the value of its
 -- last write in `l` that took effect. If there is no such write, the bit has its value in the
@@ -79,7 +58,9 @@ effective_set held p cv place = if is_effective held p then option_map Flag (bit
 abbrev pub cv_bit_after : RegisterMap → List Packet → ℕ → ℕ → Option Value
 cv_bit_after start l cv place =
     set_in_turn (start (CvBit cv place))
-    (filter_map (λ at. effective_set (pending_after start at.0) at.1 cv place) (places l))
+    (filter_map
+    (λ at. if is_effective (pending_after start at.0) at.1 then option_map Flag (bit_set at.1 cv place) else None)
+    (places l))
 
 -- the speed mode of a decoder if bit 1 of CV29 has the value `held`: `Steps28` for one, otherwise
 -- `Steps14`
@@ -87,22 +68,15 @@ abbrev pub mode_of : Option Value → SpeedMode
 mode_of (Some (Flag true)) = Steps28
 mode_of held = Steps14
 
-abbrev pub mode_after : RegisterMap → List Packet → SpeedMode
-mode_after start l = mode_of (cv_bit_after start l 29 1)
-
--- the plain register `r` after a decoder has heard the packets `l`. The register has the last value
--- to which a packet of `l` sets it. If no packet sets it, the register has its value in the
--- registers `start` before `l`. Each packet is read in the speed mode that the decoder has before
--- this packet.
-abbrev pub plain_after : RegisterMap → List Packet → Register → Option Value
-plain_after start l r = set_in_turn (start r) (filter_map (λ at. sets (mode_after start at.0) at.1 r) (places l))
-
 -- all registers of a decoder after it has heard the packets `l`. Before these packets, its
--- registers were `start`.
+-- registers were `start`. A plain register has the last value to which a packet of `l` sets it. If
+-- no packet sets it, it has its value in `start`. Each packet is read in the speed mode that the
+-- decoder has before this packet.
 abbrev pub result_of_heard : RegisterMap → List Packet → RegisterMap
 result_of_heard start l PendingRegister = pending_after start l
 result_of_heard start l (CvBit cv place) = cv_bit_after start l cv place
-result_of_heard start l r = plain_after start l r
+result_of_heard start l r =
+    set_in_turn (start r) (filter_map (λ at. sets (mode_of (cv_bit_after start at.0 29 1)) at.1 r) (places l))
 
 -- all registers of decoder `who` after the packets `l`, of which the decoder perhaps hears only
 -- some. Before these packets, its registers were `start`.

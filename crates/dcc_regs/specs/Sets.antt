@@ -1,6 +1,6 @@
 -- The plain registers that a packet sets, each to a value (RCN-212, RCN-213; NMRA S-9.2.1). All
 -- registers except the CV bits and Pending are plain.
-use Rattle.std.specs.Prelude.{◌≡◌, ◌==◌, ◌||◌, ◌&&◌, ◌/◌, ◌%◌, nat_le, Bool, true, false, Option, None, Some}
+use Rattle.std.specs.Prelude.{◌≡◌, ◌==◌, ◌||◌, ◌&&◌, ◌/◌, ◌%◌, nat_le, true, false, Option, None, Some}
 use Rattle.std.specs.Prelude.{option_map, if◌then◌else◌}
 use Rattle.dcc_packet.specs.declared.address.Address.TheVariants.{Broadcast}
 use Rattle.dcc_packet.specs.declared.instruction.What.TheVariants.{Reset, Speed28, Speed128, Functions, BinaryState}
@@ -16,10 +16,6 @@ use Rattle.dcc_regs.specs.declared.register.Value.{Value}
 use Rattle.dcc_regs.specs.declared.register.Value.TheVariants.{Speed as SpeedValue, Forward, Flag, Number}
 use Rattle.dcc_regs.specs.FunctionBits.{group_bit}
 use Rattle.dcc_regs.specs.Speeds.{speed_of_14, speed_of_28, speed_of_126, stop_of}
-
--- the value of a register with the side of a pair of outputs: 1 if `one` is true, otherwise 0
-abbrev pub side : Bool → Value
-side one = Number (if one then 1 else 0)
 
 -- the value to which a packet sets a plain register. The decoder has the speed mode `mode`. If the
 -- packet does not set the register, the result is `None`.
@@ -46,10 +42,11 @@ sets mode (ToLoco to (Speed128 forward bits)) Direction = Some (Forward forward)
 sets mode (ToLoco to (Functions bits)) (Function n) = option_map Flag (group_bit mode bits n)
 sets mode (ToLoco to (BinaryState state on)) (StateRegister n) =
     if (nat_le 1 n && nat_le n 127) && (state.number == 0 || n == state.number) then Some (Flag on) else None
--- outputs, pairs of outputs and signals. Signal 2047 stands for all signals.
+-- outputs, pairs of outputs and signals. Pair n has the outputs 2n (position 0) and 2n + 1 (position
+-- 1). Signal 2047 stands for all signals.
 sets mode (Accessory board output on) (Out n) = if n == output.number then Some (Flag on) else None
 sets mode (Accessory board output true) (Position n) =
-    if n == output.number / 2 then Some (side (output.number % 2 == 1)) else None
+    if n == output.number / 2 then Some (Number (output.number % 2)) else None
 sets mode (Signal address aspect) (Aspect n) =
     if (address.number == 2047 && nat_le n 3) || n == address.number % 4 then Some (Number aspect) else None
 sets mode p r = None

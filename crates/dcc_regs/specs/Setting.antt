@@ -1,5 +1,5 @@
 -- The registers that a heard packet sets, depending on the registers before the packet.
-use Rattle.std.specs.Prelude.{Option, None, Some, unwrap_or}
+use Rattle.std.specs.Prelude.{ℕ, Option, None, Some, option_map, unwrap_or, if◌then◌else◌}
 use Rattle.dcc_packet.specs.declared.packet.Packet.{Packet}
 use Rattle.dcc_regs.specs.declared.register.SpeedMode.{SpeedMode}
 use Rattle.dcc_regs.specs.declared.register.Register.{Register}
@@ -7,13 +7,24 @@ use Rattle.dcc_regs.specs.declared.register.Register.TheVariants.{Speed as Speed
 use Rattle.dcc_regs.specs.declared.register.Register.TheVariants.{State as StateRegister, CvBit}
 use Rattle.dcc_regs.specs.declared.register.Register.TheVariants.{Pending as PendingRegister, Out, Position, Aspect}
 use Rattle.dcc_regs.specs.declared.register.Value.{Value}
-use Rattle.dcc_regs.specs.declared.register.Value.TheVariants.{Pending as PendingValue}
+use Rattle.dcc_regs.specs.declared.register.Value.TheVariants.{Flag, Pending as PendingValue}
 use Rattle.dcc_regs.specs.Sets.{sets}
-use Rattle.dcc_regs.specs.Result.{RegisterMap, left_pending, effective_set, mode_of}
+use Rattle.dcc_regs.specs.Result.{RegisterMap, is_effective, mode_of}
+use Rattle.dcc_regs.specs.Writes.{bit_set, is_own_write}
 
 -- the speed mode of a decoder with the registers `m`
 abbrev pub mode_in : RegisterMap → SpeedMode
 mode_in m = mode_of (m (CvBit 29 1))
+
+-- the pending write after a decoder has heard packet `p`. The result is `p` if `p` is an own write,
+-- otherwise `None`.
+abbrev pub left_pending : Packet → Option Packet
+left_pending p = if is_own_write p then Some p else None
+
+-- the value to which `p` sets bit `place` of CV `cv`, if the register Pending has the value `held`.
+-- The result is `None` if `p` does not write this bit, or if the write does not take effect.
+abbrev pub effective_set : Option Value → Packet → ℕ → ℕ → Option Value
+effective_set held p cv place = if is_effective held p then option_map Flag (bit_set p cv place) else None
 
 -- the value to which a heard packet `p` sets a register, if the decoder has the registers `m`
 -- before `p`. If `p` does not set this register, the result is `None`.

@@ -1,5 +1,6 @@
 -- Writes of configuration variables on the main track (RCN-214).
-use Rattle.std.specs.Prelude.{ℕ, Bool, false, not, ◌&&◌, ◌==◌, Option, None, Some, is_some, if◌then◌else◌}
+use Rattle.std.specs.Prelude.{ℕ, Bool, true, false, not, ◌&&◌, ◌==◌, Option, None, Some, is_some}
+use Rattle.std.specs.Prelude.{if◌then◌else◌}
 use Rattle.dcc_packet.specs.declared.address.Address.TheVariants.{Broadcast}
 use Rattle.dcc_packet.specs.declared.cv.BitPlace.{BitPlace}
 use Rattle.dcc_packet.specs.declared.cv.CvNumber.{CvNumber}
@@ -9,6 +10,22 @@ use Rattle.dcc_packet.specs.declared.packet.Packet.{Packet}
 use Rattle.dcc_packet.specs.declared.packet.Packet.TheVariants.{Loco as ToLoco}
 use Rattle.dcc_packet.specs.Bits.{is_one}
 use Rattle.dcc_packet.specs.Cvs.{is_read_only}
+
+-- true if the packet is an own write: a CV write that is not sent to the broadcast address
+abbrev pub is_own_write : Packet → Bool
+is_own_write (ToLoco Broadcast what) = false
+is_own_write (ToLoco to (CvWrite cv value)) = true
+is_own_write (ToLoco to (CvBitWrite cv place one)) = true
+is_own_write p = false
+
+-- the value to which packet `p` sets bit `k` of CV `n` when `p` takes effect. If `p` does not write
+-- this bit, or if the CV is read-only, the result is `None`.
+abbrev pub bit_set : Packet → ℕ → ℕ → Option Bool
+bit_set (ToLoco to (CvWrite cv value)) n k =
+    if n == cv.number && not (is_read_only cv.number) then Some (is_one value k) else None
+bit_set (ToLoco to (CvBitWrite cv place one)) n k =
+    if n == cv.number && k == place.place && not (is_read_only cv.number) then Some one else None
+bit_set p n k = None
 
 -- a change that a packet makes to a CV
 pub data CvChange : Type 0 where
@@ -31,25 +48,6 @@ change_of x = None
 -- true if instruction `what` writes a CV or a bit of a CV
 abbrev pub is_cv_write : What → Bool
 is_cv_write what = is_some (cv_change what)
-
--- true if the packet is an own write: a CV write that is not sent to the broadcast address
-abbrev pub is_own_write : Packet → Bool
-is_own_write (ToLoco Broadcast what) = false
-is_own_write p = is_some (change_of p)
-
--- the value to which a change sets bit `k` of CV `n`. If the change does not set this bit, or if
--- the CV is read-only, the result is `None`.
-abbrev pub bit_by : Option CvChange → ℕ → ℕ → Option Bool
-bit_by None n k = None
-bit_by (Some (Byte cv value)) n k = if n == cv.number && not (is_read_only cv.number) then Some
-    (is_one value k) else None
-bit_by (Some (OneBit cv place one)) n k =
-    if n == cv.number && k == place.place && not (is_read_only cv.number) then Some one else None
-
--- the value to which packet `p` sets bit `k` of CV `n` when `p` takes effect, or `None` if `p` does
--- not set this bit
-abbrev pub bit_set : Packet → ℕ → ℕ → Option Bool
-bit_set p n k = bit_by (change_of p) n k
 
 -- true if the change writes CV29 or a bit of CV29
 abbrev pub is_of_cv29 : Option CvChange → Bool

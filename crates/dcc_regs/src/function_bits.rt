@@ -12,7 +12,7 @@ use dcc_packet::{Address, Group, GroupBits, Packet, What};
 /// Returns the function of the lowest bit of a group (NMRA S-9.2.1, RCN-212). For the group of F0
 /// this function is F1, since the highest bit of the group is F0.
 pub fn first_function(group: Group) -> u8
-    ensures first { result ≡ table.first_function group }
+    ensures first { result ≡ (table.group_functions group).0 }
     ensures small { result ≤ 61 }
 {
     match group {
@@ -31,7 +31,7 @@ pub fn first_function(group: Group) -> u8
 
 /// Returns a byte with a one for each bit of a group that is a function other than F0.
 pub fn ones_of(group: Group) -> u8
-    ensures { result ≡ 2 ^ table.count_of group - 1 }
+    ensures { result ≡ 2 ^ (table.group_functions group).1 - 1 }
 {
     match group {
         Group::F0 | Group::F5 | Group::F9 => 15,
@@ -41,7 +41,7 @@ pub fn ones_of(group: Group) -> u8
 
 /// Returns true if a bit of `group` is F0 in speed mode `mode`.
 fn has_f0(mode: SpeedMode, group: Group) -> bool
-    ensures { table.place_of_f0 mode group ≡ (if result then Some 4 else None) }
+    ensures { table.function_place mode group 0 ≡ (if result then Some 4 else None) }
 {
     matches!((mode, group), (SpeedMode::Steps28, Group::F0))
 }

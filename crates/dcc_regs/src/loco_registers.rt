@@ -48,8 +48,8 @@ impl LocoRegisters {
     ghost use Rattle.dcc_regs.specs.Loco.{start_map, start_who};
     ghost use Rattle.dcc_regs.specs.LocoRegisters.{with_cvs};
     ghost use Rattle.dcc_regs.specs.LocoState.{is_state, loco_map, loco_who};
-    ghost use Rattle.dcc_regs.specs.Result.{left_pending, step};
-    ghost use Rattle.dcc_regs.specs.Setting.{set_from};
+    ghost use Rattle.dcc_regs.specs.Result.{step};
+    ghost use Rattle.dcc_regs.specs.Setting.{left_pending, set_from};
 
     /// Creates the registers of a decoder that was powered up with the CVs `cvs`.
     pub fn new(cvs: &[u8; 1024]) -> LocoRegisters

@@ -25,8 +25,8 @@ impl LocoRegisters {
     ghost use Rattle.dcc_regs.specs.Heard.{hears};
     ghost use Rattle.dcc_regs.specs.LocoRegisters.{with_cvs};
     ghost use Rattle.dcc_regs.specs.LocoState.{is_state, loco_map, loco_who};
-    ghost use Rattle.dcc_regs.specs.Result.{left_pending, step};
-    ghost use Rattle.dcc_regs.specs.Setting.{set_from};
+    ghost use Rattle.dcc_regs.specs.Result.{step};
+    ghost use Rattle.dcc_regs.specs.Setting.{left_pending, set_from};
 
     /// Returns the CV that [`apply_with_value`](LocoRegisters::apply_with_value) accesses for this
     /// packet: the CV of a CV write that takes effect. Returns `None` for all other packets.

@@ -2,7 +2,8 @@
 
 ghost use Rattle.std.specs.Prelude.{◌≡◌, ◌↔◌, nat_le, IsTrue, Some, true};
 ghost use Rattle.dcc_regs.specs.Loco.{is_byte_write, writes_byte};
-ghost use Rattle.dcc_regs.specs.Result.{is_effective, left_pending};
+ghost use Rattle.dcc_regs.specs.Result.{is_effective};
+ghost use Rattle.dcc_regs.specs.Setting.{left_pending};
 ghost use Rattle.dcc_regs.specs.Writes.{is_cv_write, is_own_write as is_own_write_of};
 ghost use Rattle.dcc_regs.specs.declared.register.Value.TheVariants.{Pending as PendingValue};
 

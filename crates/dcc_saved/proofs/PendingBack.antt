@@ -18,7 +18,7 @@ use Rattle.dcc_packet.specs.declared.instruction.What.{What}
 use Rattle.dcc_packet.specs.declared.instruction.What.TheVariants.{CvWrite, CvBitWrite}
 use Rattle.dcc_packet.specs.declared.packet.Packet.{Packet}
 use Rattle.dcc_packet.specs.declared.packet.Packet.TheVariants.{Loco}
-use Rattle.dcc_packet.specs.Rows.{bit, address_bytes, instruction_bytes, loco_bytes}
+use Rattle.dcc_packet.specs.Rows.{bit, address_bytes, instruction_bytes}
 use Rattle.dcc_packet.specs.Spelling.{spelling, ValueFits}
 use Rattle.dcc_packet.specs.Values.{cv_of, place_of}
 use Rattle.dcc_packet.specs.Fields.{IsToken}
@@ -32,6 +32,7 @@ use Rattle.dcc_regs.specs.declared.register.Who.TheVariants.{Loco as LocoWho}
 use Rattle.dcc_regs.specs.Heard.{hears}
 use Rattle.dcc_regs.specs.Inner.HearsByAddress.{is_for}
 use Rattle.dcc_regs.proofs.HearsByBytes.{hears_at}
+use Rattle.dcc_regs.proofs.WritesInParts.{own_is_cv_write}
 use Rattle.dcc_regs.specs.Loco.{writes_byte, is_pending_for}
 use Rattle.dcc_regs.specs.Writes.{is_cv_write, is_own_write}
 use Rattle.dcc_saved.specs.DecoderLines.{pending_word, pending_text, pending_field, pending_line}
@@ -78,8 +79,10 @@ value_fits what h byte = cc
 -- an own write is heard by the decoder with that address
 own_to : (to : Address) (active : Option Address) (what : What) → is_own_write (Loco to what) ≡ true
     → is_for active to ≡ true → (active ≡ Some to) × (is_cv_write what ≡ true)
-own_to (Short to) (Some (Short own)) what h heard = (ap Some ((one_short own to).0 heard), h)
-own_to (Long to) (Some (Long own)) what h heard = (ap Some ((one_long own to).0 heard), h)
+own_to (Short to) (Some (Short own)) what h heard =
+    (ap Some ((one_short own to).0 heard), own_is_cv_write (Short to) what h)
+own_to (Long to) (Some (Long own)) what h heard =
+    (ap Some ((one_long own to).0 heard), own_is_cv_write (Long to) what h)
 own_to to active what h heard = cc
 
 -- what is known of a packet that may be pending
@@ -92,7 +95,7 @@ read_back : (to : Address) (what : What) → is_cv_write what ≡ true
     → pending_write (Some to) (spelling (Loco to what)) ≡ Ok (Loco to what)
 unfolding pending_write
 read_back to what write h =
-    let error : List ℕ = xor_of (loco_bytes to what) ∷ [] in
+    let error : List ℕ = xor_of (address_bytes to ++ instruction_bytes what) ∷ [] in
     let bytes : drop (length (address_bytes to)) (spelling (Loco to what)) ≡ instruction_bytes what ++ error =
     ap (drop (length (address_bytes to))) (append_assoc (address_bytes to) (instruction_bytes what) error)
     ∙ drop-append_seam (address_bytes to) (instruction_bytes what ++ error) in

@@ -8,7 +8,7 @@ use Rattle.dcc_regs.specs.Writes.{is_own_write, writes_cv29}
 use Rattle.dcc_regs.specs.Result.{RegisterMap}
 use Rattle.dcc_regs.specs.Sets.{sets}
 use Rattle.dcc_regs.specs.Setting.{value_over, mode_in}
-use Rattle.dcc_regs.specs.Result.{is_pending}
+use Rattle.dcc_regs.specs.Inner.WriteParts.{is_pending}
 use Rattle.dcc_packet.proofs.SameFrames.{same-refl}
 use Rattle.dcc_regs.proofs.OwnWrites.{sets-own_write}
 use Rattle.dcc_regs.proofs.RegisterStep.{overwritten-none}

@@ -1,10 +1,10 @@
 -- One function that is turned, and the packet of its group.
-use Rattle.std.proofs.Common.{◌≡◌, ℕ, ◌+◌, ◌-◌, ◌*◌, ◌/◌, ◌%◌, ◌^◌, ◌<◌, ◌≤◌, Bool, true, false, refl, sym, ap, ◌∙◌}
-use Rattle.std.proofs.Common.{arith, inl, inr, bit_and}
+use Rattle.std.proofs.Common.{◌≡◌, ℕ, zero, suc, ◌+◌, ◌-◌, ◌*◌, ◌/◌, ◌%◌, ◌^◌, ◌<◌, ◌≤◌, Bool, true, false, refl, sym}
+use Rattle.std.proofs.Common.{◌∙◌, ap, arith, inl, inr, bit_and}
 use Rattle.std.specs.Prelude.{◌==◌, ◌&&◌, ◌⊎◌, nat_le, nat_lt, Option, None, Some, IsSome, option_map, unwrap_or}
 use Rattle.std.specs.Prelude.{if◌then◌else◌}
 use Rattle.std.specs.Int.{bit_at}
-use Rattle.std.proofs.lemmas.Bool.{and_parts, leb-true, ltb-true, ne_eqb}
+use Rattle.std.proofs.lemmas.Bool.{leb-true, ltb-true}
 use Rattle.std.proofs.lemmas.Bool.Decides.{Decides-eqb}
 use Rattle.std.proofs.lemmas.Nat.{shr-shr}
 use Rattle.std.proofs.lemmas.Nat.Bits.{bit_at_cat_low, bit_at_cat_high, bit_at_lowest}
@@ -55,32 +55,26 @@ turned_over word mask bits f n on m small e =
 some_same : (x y : ℕ) → Some x ≡ Some y → x ≡ y
 some_same x y e = cc
 
-by_tests : (first count n place : ℕ) (t u v : Bool) → nat_le first n ≡ u → nat_lt n (first + count) ≡ v
-    → (if t then None else if u && v then Some (n - first) else None) ≡ Some place
-    → (place < count) × (n ≡ first + place)
-by_tests first count n place true u v f g is = absurd (cc)
-by_tests first count n place false true true f g is =
+by_tests : (first count n place : ℕ) (u v : Bool) → nat_le first n ≡ u → nat_lt n (first + count) ≡ v
+    → (if u && v then Some (n - first) else None) ≡ Some place → (place < count) × (n ≡ first + place)
+by_tests first count n place true true f g is =
     let from : first ≤ n = leb-true first n f in
     let below : n < first + count = ltb-true n (first + count) g in
     let at : n - first ≡ place = some_same (n - first) place is in
     (omega arith, omega arith)
-by_tests first count n place false true false f g is = absurd (cc)
-by_tests first count n place false false v f g is = absurd (cc)
+by_tests first count n place true false f g is = absurd (cc)
+by_tests first count n place false v f g is = absurd (cc)
 
 pub place_in : (first count n place : ℕ)
-    → (if n == 0 then None else if nat_le first n && nat_lt n (first + count) then Some (n - first) else None)
-    ≡ Some place → (place < count) × (n ≡ first + place)
+    → (if nat_le first n && nat_lt n (first + count) then Some (n - first) else None) ≡ Some place
+    → (place < count) × (n ≡ first + place)
 place_in first count n place is =
-    by_tests first count n place (n == 0) (nat_le first n) (nat_lt n (first + count)) refl refl is
+    by_tests first count n place (nat_le first n) (nat_lt n (first + count)) refl refl is
 
 place_in_first : (n place : ℕ) → function_place Steps28 F0 n ≡ Some place
     → ((n ≡ 0) × (place ≡ 4)) ⊎ ((place < 4) × (n ≡ 1 + place))
-place_in_first n place is = by_zero (n == 0) refl is where
-  by_zero : (t : Bool) → (n == 0) ≡ t
-      → (if t then Some 4 else if nat_le 1 n && nat_lt n 5 then Some (n - 1) else None) ≡ Some place
-      → ((n ≡ 0) × (place ≡ 4)) ⊎ ((place < 4) × (n ≡ 1 + place))
-  by_zero true e found = inl ((Decides-eqb n 0).0 e, sym (some_same 4 place found))
-  by_zero false e found = inr (by_tests 1 4 n place false (nat_le 1 n) (nat_lt n 5) refl refl found)
+place_in_first zero place is = inl (refl, sym (some_same 4 place is))
+place_in_first (suc n) place is = inr (place_in 1 4 (suc n) place is)
 
 -- the states of a group
 pub masked_from : (functions first mask count place : ℕ) → mask ≡ 2 ^ count - 1 → place < count
@@ -108,8 +102,8 @@ first_states functions low byte n place e small states is = by_place (place_in_f
 
 pub group_states : (functions byte first count n place : ℕ)
     → ((k : ℕ) → k < count → is_one byte k ≡ is_one functions (first + k))
-    → (if n == 0 then None else if nat_le first n && nat_lt n (first + count) then Some (n - first) else None)
-    ≡ Some place → is_one byte place ≡ is_one functions n
+    → (if nat_le first n && nat_lt n (first + count) then Some (n - first) else None) ≡ Some place
+    → is_one byte place ≡ is_one functions n
 group_states functions byte first count n place states is =
     let at = place_in first count n place is in
     rw at.1 (states place at.0)
@@ -118,9 +112,9 @@ group_states functions byte first count n place states is =
 same_places : (mode : SpeedMode) (group : Group) (n : ℕ) → is_in_a_group mode n ≡ true
     → function_place mode group n ≡ function_place Steps28 group n
 same_places Steps28 group n is = refl
-same_places Steps14 group n is =
-    let some : 1 ≤ n = leb-true 1 n (and_parts (nat_le 1 n) (nat_le n 68) is).0 in
-    rw (ne_eqb n 0 (λ none. absurd (omega arith))) refl
+same_places Steps14 F0 zero is = absurd (cc)
+same_places Steps14 F0 (suc n) is = refl
+same_places Steps14 group n is = refl
 
 group_sets : (mode : SpeedMode) (to : Address) (bits : GroupBits) (n : ℕ)
     → sets mode (ToLoco to (Functions bits)) (Function n) ≡ option_map Flag (group_bit mode bits n)

@@ -19,7 +19,8 @@ use Rattle.dcc_regs.specs.declared.register.SpeedMode.TheVariants.{Steps28}
 use Rattle.dcc_regs.specs.declared.register.Register.TheVariants.{Function}
 use Rattle.dcc_regs.specs.declared.register.Value.{Value}
 use Rattle.dcc_regs.specs.declared.register.Value.TheVariants.{Flag}
-use Rattle.dcc_regs.specs.FunctionBits.{function_set, group_bit, function_place, first_function, count_of}
+use Rattle.dcc_regs.specs.FunctionBits.{function_set, group_bit, function_place}
+use Rattle.dcc_regs.specs.Inner.GroupParts.{first_function, count_of}
 use Rattle.dcc_packet.proofs.BitLemmas.{either_by}
 use Rattle.dcc_regs.specs.Effects.{Differ}
 use Rattle.dcc_regs.proofs.ConflictLemmas.{differ-sym}

@@ -15,7 +15,8 @@ use Rattle.dcc_packet.specs.Group.{group_max}
 use Rattle.dcc_packet.proofs.Same.{same_functions}
 use Rattle.dcc_regs.specs.declared.register.SpeedMode.TheVariants.{Steps28}
 use Rattle.dcc_regs.specs.declared.register.Value.TheVariants.{Flag}
-use Rattle.dcc_regs.specs.FunctionBits.{group_bit, first_function, count_of}
+use Rattle.dcc_regs.specs.FunctionBits.{group_bit}
+use Rattle.dcc_regs.specs.Inner.GroupParts.{first_function, count_of}
 use Rattle.dcc_station.specs.Commands.{is_refreshed}
 use Rattle.dcc_station.specs.Inner.Kept.{speed_kept, group_kept, kept_by_all}
 use Rattle.dcc_station.proofs.EntryDifferences.{same_differs, not_equal, Ends, Judged, same_all}

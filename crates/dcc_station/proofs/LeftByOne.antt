@@ -11,7 +11,7 @@ use Rattle.dcc_packet.specs.declared.instruction.What.TheVariants.{Reset, Speed2
 use Rattle.dcc_packet.specs.declared.packet.Packet.{Packet}
 use Rattle.dcc_packet.specs.declared.packet.Packet.TheVariants.{Loco}
 use Rattle.dcc_regs.specs.declared.register.Who.TheVariants.{Loco as LocoWho}
-use Rattle.dcc_regs.specs.FunctionBits.{first_function}
+use Rattle.dcc_regs.specs.Inner.GroupParts.{first_function}
 use Rattle.dcc_regs.specs.Heard.{address_of}
 use Rattle.dcc_regs.specs.Inner.HearsByAddress.{is_for}
 use Rattle.dcc_regs.proofs.HearsByBytes.{hears_at}

@@ -5,7 +5,8 @@ use Rattle.dcc_timing.specs.Tallies.{mean}
 use Rattle.dcc_timing.specs.Classes.{is_above, is_below, is_between, is_half_of_one, is_half_of_zero}
 use Rattle.dcc_timing.specs.PacketBits.{packet_bits_in, difference, packet_length, packets_in, pairs, bit_duration}
 use Rattle.dcc_timing.specs.Gaps.{ends_in, longest_gap}
-use Rattle.dcc_wire.specs.Framing.{seen, starts_below, outcomes_at}
+use Rattle.dcc_wire.specs.Framing.{seen, starts_below}
+use Rattle.dcc_wire.specs.Inner.OutcomesAt.{outcomes_at}
 
 -- the limits of the classes
 below_ends_at_51 : map is_below (51 ∷ 52 ∷ []) ≡ true ∷ false ∷ []

@@ -5,11 +5,13 @@ use Rattle.std.specs.Fmt.{digits}
 use Rattle.std.specs.Io.KnownBytes.{Appends}
 use Rattle.dcc_wire.specs.declared.seen.Seen.TheVariants.{Packet}
 use Rattle.dcc_wire.specs.Bodies.{body_bits, bits_of, number_of}
-use Rattle.dcc_wire.specs.Framing.{seen, outcomes_at, outcome_at, starts_below, is_start, used_up, halves_used}
+use Rattle.dcc_wire.specs.Framing.{seen, starts_below, is_start, used_up}
 use Rattle.dcc_wire.specs.Framing.{ones_at_end, ones_before}
-use Rattle.dcc_wire.specs.Outcomes.{outcome_of, bits_in, behind_bits, bytes_in, body_outcome, by_bits, by_halves}
+use Rattle.dcc_wire.specs.Outcomes.{outcome_of, bits_in, bytes_in, body_outcome, by_halves}
 use Rattle.dcc_wire.specs.Outcomes.{ones_left}
 use Rattle.dcc_wire.specs.Sending.{sent, sent_bits, durations_of, sent_all}
+use Rattle.dcc_wire.specs.Inner.OutcomesAt.{outcome_at, outcomes_at}
+use Rattle.dcc_wire.specs.Inner.OutcomeParts.{behind_bits, by_bits}
 use Rattle.dcc_io.specs.InputState.{InputState, fresh}
 use Rattle.dcc_io.specs.Items.{Items, in_text}
 use Rattle.dcc_io.specs.Words.{is_gap, comments}
@@ -57,7 +59,7 @@ unfolding is_gap comments run_text
 runs_are_read = refl
 
 run_is_seen : seen run_halves ≡ (83, Packet (3 ∷ 98 ∷ 97 ∷ [])) ∷ []
-unfolding seen outcomes_at outcome_at starts_below is_start used_up halves_used ones_at_end ones_before outcome_of
+unfolding seen outcomes_at outcome_at starts_below is_start used_up ones_at_end ones_before outcome_of
     bits_in behind_bits bytes_in body_outcome by_bits by_halves ones_left number_of
 run_is_seen = refl
 

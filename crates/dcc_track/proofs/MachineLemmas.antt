@@ -10,6 +10,8 @@ use Rattle.dcc_regs.specs.declared.register.Who.{Who}
 use Rattle.dcc_regs.specs.declared.register.Who.TheVariants.{Loco as LocoWho, Board as BoardWho}
 use Rattle.dcc_regs.specs.Heard.{hears}
 use Rattle.dcc_regs.specs.Result.{RegisterMap}
+use Rattle.dcc_regs.specs.declared.register.Register.TheVariants.{Pending as PendingRegister}
+use Rattle.dcc_regs.proofs.WritesInParts.{effective_in_parts}
 use Rattle.dcc_service.specs.declared.packet.ServicePacket.{ServicePacket}
 use Rattle.dcc_service.specs.declared.progress.ServiceProgress.{ServiceProgress}
 use Rattle.dcc_service.specs.Machine.{ServiceState, Step, reset_bytes}
@@ -30,7 +32,10 @@ either_cvs false a b = refl
 
 -- the reset changes no CV
 reset_cvs : (who : Who) (m : RegisterMap) (cvs : List ℕ) → cvs_after who m cvs (ToLoco Broadcast Reset) ≡ cvs
-reset_cvs (LocoWho active) m cvs = either_cvs (hears (LocoWho active) (ToLoco Broadcast Reset)) cvs cvs
+reset_cvs (LocoWho active) m cvs =
+    ap (λ (effective : Bool). if hears (LocoWho active) (ToLoco Broadcast Reset) && effective then cvs else cvs)
+    (effective_in_parts (m PendingRegister) (ToLoco Broadcast Reset))
+    ∙ either_cvs (hears (LocoWho active) (ToLoco Broadcast Reset)) cvs cvs
 reset_cvs (BoardWho own) m cvs = refl
 
 cvs_after_reset : (frame : List ℕ) (before next : DecoderState) → frame ≡ reset_bytes → HearsOnMain frame before next

@@ -21,8 +21,10 @@ use Rattle.dcc_regs.specs.Loco.{change_fits, cv_held, holds_one, is_byte_write, 
 use Rattle.dcc_regs.specs.Possible.{IsPossible, may_hold}
 use Rattle.dcc_regs.specs.Result.{RegisterMap, is_effective, step}
 use Rattle.dcc_regs.specs.Setting.{value_over}
-use Rattle.dcc_regs.specs.Writes.{CvChange, Byte, OneBit, bit_by, change_of}
+use Rattle.dcc_regs.specs.Writes.{CvChange, Byte, OneBit, bit_set, change_of}
+use Rattle.dcc_regs.specs.Inner.WriteParts.{bit_by}
 use Rattle.dcc_regs.proofs.RegisterStep.{step-sets}
+use Rattle.dcc_regs.proofs.WritesInParts.{set_by_change}
 use Rattle.dcc_track.specs.DecoderState.{cvs_after, cvs_changed}
 use Rattle.dcc_track.specs.LocoDecoders.{cvs_held}
 use Rattle.dcc_track.proofs.HeldCvs.{cv_in-held, held_is, length-held}
@@ -189,5 +191,8 @@ held_after active m p possible byte =
     let is : m (CvBit n k) ≡ Some (Flag (holds_one (m (CvBit n k)))) =
     flag_held active n k (m (CvBit n k)) (possible.registers (CvBit n k)) (bit_there n k low high le) in
     ap holds_one (step-sets (LocoWho active) m p (CvBit n k))
-    ∙ bit_after h e (m (CvBit n k)) (bit_by (change_of p) n k) is)
+    ∙ bit_after h e (m (CvBit n k)) (bit_set p n k) is
+    ∙ ap
+    (λ (set : Option Bool). if h && e then unwrap_or set (holds_one (m (CvBit n k))) else holds_one (m (CvBit n k)))
+    (set_by_change p n k))
     ∙ byte_by (h && e) (change_of p) m n byte low high)

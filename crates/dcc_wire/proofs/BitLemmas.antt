@@ -4,7 +4,8 @@ use Rattle.std.proofs.Common.{append_assoc}
 use Rattle.dcc_wire.specs.declared.half.Half.{Half}
 use Rattle.dcc_wire.specs.declared.half.Half.TheVariants.{One, Zero}
 use Rattle.dcc_wire.specs.Bodies.{halves_of}
-use Rattle.dcc_wire.specs.Outcomes.{bits_in, behind_bits}
+use Rattle.dcc_wire.specs.Outcomes.{bits_in}
+use Rattle.dcc_wire.specs.Inner.OutcomeParts.{behind_bits}
 
 pub halves_of-append : (xs ys : List Bool) → halves_of (xs ++ ys) ≡ halves_of xs ++ halves_of ys
 unfolding halves_of

@@ -12,14 +12,17 @@ use Rattle.dcc_wire.specs.declared.half.Half.{Half}
 use Rattle.dcc_wire.specs.declared.half.Half.TheVariants.{One, Bad}
 use Rattle.dcc_wire.specs.declared.seen.Seen.{Seen}
 use Rattle.dcc_wire.specs.declared.seen.Seen.TheVariants.{Nothing}
-use Rattle.dcc_wire.specs.Framing.{Hunting, InBody, rest, seen, report_at, starts_below, outcomes_at, ones_before}
-use Rattle.dcc_wire.specs.Framing.{ones_at_end, rest_at, hunting, used_up, halves_used, is_start, outcome_at, is_zero}
+use Rattle.dcc_wire.specs.Framing.{Hunting, InBody, rest, seen, report_at, starts_below, ones_before}
+use Rattle.dcc_wire.specs.Framing.{ones_at_end, rest_at, hunting, used_up, is_start, is_zero}
 use Rattle.dcc_wire.specs.Framing.{starts}
 use Rattle.dcc_wire.specs.Half.{class_of}
 use Rattle.dcc_wire.specs.Inner.Steps.{rest_after, answer_to, answer_of, left_of}
-use Rattle.dcc_wire.specs.Outcomes.{bytes_in, bits_in, behind_bits, by_halves, outcome_of}
+use Rattle.dcc_wire.specs.Outcomes.{bytes_in, bits_in, by_halves, outcome_of}
+use Rattle.dcc_wire.specs.Inner.OutcomesAt.{outcome_at, outcomes_at}
+use Rattle.dcc_wire.specs.Inner.OutcomeParts.{behind_bits}
 use Rattle.dcc_wire.proofs.ByteBits.{cases_Option}
 use Rattle.dcc_wire.proofs.OutcomeLemmas.{outcome_of-more, outcome_of-push, outcome_of-long, ones_left_le}
+use Rattle.dcc_wire.proofs.OutcomesAt.{seen_at}
 
 ones_before_le : (halves : List Half) → ones_before halves ≤ length halves
 unfolding ones_before
@@ -38,7 +41,7 @@ not_start halves places place h =
 -- an unfinished body uses all halves
 used_up_open : (halves : List Half) (start : ℕ) (earlier : List ℕ) → start ≤ length halves
     → outcome_of (drop start halves) ≡ None → used_up halves (start ∷ earlier) ≡ length halves
-unfolding used_up halves_used
+unfolding used_up
 used_up_open halves start earlier within e = rw e (omega (arith, length-drop start halves))
 
 -- start places below a place, of which all but the last have come to an outcome
@@ -89,13 +92,13 @@ module _ (halves : List Half) (half : Half) where
 
   settled_used_up : (start : ℕ) (earlier : List ℕ) (p : ℕ × Seen) → outcome_of (drop start halves) ≡ Some p
       → used_up longer (start ∷ earlier) ≡ used_up halves (start ∷ earlier)
-  unfolding used_up halves_used
+  unfolding used_up
   settled_used_up start earlier p e = rw (settled start p e, e) refl
 
   -- a body that was unfinished still uses all halves, but for two
   open_used_up : (start : ℕ) (earlier : List ℕ) → start ≤ length halves → outcome_of (drop start halves) ≡ None
       → length halves ≤ used_up longer (start ∷ earlier) + 1
-  unfolding used_up halves_used
+  unfolding used_up
   open_used_up start earlier within e =
       let len = length-drop start halves in
       rw (drop-append-le start halves (half ∷ []) within) (elim (outcome_of-push (drop start halves) half e) [
@@ -170,7 +173,7 @@ report_shows so_far place answer something e =
 body_step : (halves : List Half) (half : Half) (start : ℕ) (earlier : List ℕ) → start ≤ length halves
     → Settled halves earlier → outcome_of (drop start halves) ≡ None
     → Step halves half (start ∷ earlier) (start ∷ earlier)
-unfolding rest_after answer_to left_of answer_of report_at hunting used_up halves_used rest_at outcomes_at outcome_at
+unfolding rest_after answer_to left_of answer_of report_at hunting used_up rest_at outcomes_at outcome_at
 body_step halves half start earlier within all e =
     let next = drop-append-le start halves (half ∷ []) within in
     let same = settled_outcomes halves half earlier all in
@@ -247,7 +250,7 @@ module _ (halves : List Half) (half : Half) (places : List ℕ) (q : Quiet halve
 step_by : (halves : List Half) (half : Half) (places : List ℕ) → Told halves (length halves) places
     → Step halves half places
     (cond (is_start (halves ++ half ∷ []) places (length halves)) (length halves ∷ places) places)
-unfolding Told Settled used_up halves_used rest_at outcomes_at
+unfolding Told Settled used_up rest_at outcomes_at
 step_by halves half [] told = quiet_step halves half []
     (record { used_stays = refl; used_within = omega arith; hunts = refl; goes_on = refl; outcomes_stay = refl })
 step_by halves half (start ∷ earlier) (below, all) = elim (cases_Option (outcome_of (drop start halves))) [
@@ -281,7 +284,7 @@ rest-push durations us =
 pub seen-push : (durations : List ℕ) (us : ℕ)
     → seen (durations ++ us ∷ []) ≡ seen durations
     ++ report_at (length durations) (answer_to (rest durations) (class_of us))
-unfolding seen rest
+unfolding rest
 seen-push durations us =
-    rw (map-append class_of durations (us ∷ []))
+    rw (seen_at, seen_at, map-append class_of durations (us ∷ []))
     ((step (map class_of durations) (class_of us)).outcomes ∙ rw length-map)

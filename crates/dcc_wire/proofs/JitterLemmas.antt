@@ -1,18 +1,20 @@
 -- Classes decide the outcomes, and small errors of sent half-bits change no class.
-use Rattle.std.proofs.Common.{◌≡◌, ℕ, ◌≤◌, Bool, true, false, List, [], ◌∷◌, ◌++◌, refl, ap, ◌∙◌, arith, map}
+use Rattle.std.proofs.Common.{◌≡◌, ℕ, ◌≤◌, Bool, true, false, List, [], ◌∷◌, ◌++◌, refl, sym, ap, ◌∙◌, arith, map}
 use Rattle.std.proofs.lemmas.Bool.Decides.{nat_tests}
 use Rattle.std.proofs.lemmas.List.{map-append}
 use Rattle.dcc_wire.specs.declared.timing.Timing.{Timing}
-use Rattle.dcc_wire.specs.Framing.{seen, starts, outcomes_at}
+use Rattle.dcc_wire.specs.Framing.{seen, starts}
 use Rattle.dcc_wire.specs.Half.{class_of}
 use Rattle.dcc_wire.specs.Jitter.{IsWithin, AreWithin}
 use Rattle.dcc_wire.specs.Sending.{durations_of, sent, sent_bits, Sent, sent_all, at_last_halves, AllFrames}
+use Rattle.dcc_wire.specs.Inner.OutcomesAt.{outcomes_at}
 use Rattle.dcc_wire.proofs.SendingLemmas.{seen-sent_all}
+use Rattle.dcc_wire.proofs.OutcomesAt.{seen_at}
 
 pub seen-classes : (durations others : List ℕ) → map class_of durations ≡ map class_of others
     → seen durations ≡ seen others
-unfolding seen
-seen-classes durations others e = ap (λ halves. outcomes_at halves (starts halves)) e
+seen-classes durations others e =
+    seen_at durations ∙ ap (λ halves. outcomes_at halves (starts halves)) e ∙ sym (seen_at others)
 
 -- an error of up to 3 microseconds does not change the class of this half-bit
 abbrev IsFirm : ℕ → Type 0

@@ -13,8 +13,9 @@ use Rattle.dcc_wire.specs.Half.{bit_of}
 use Rattle.dcc_wire.specs.Inner.KeptSteps.{HasRoomFor, FitsBehind, Grows}
 use Rattle.dcc_wire.specs.Inner.Steps.{rest_after, answer_to, answer_of, left_of}
 use Rattle.dcc_wire.specs.Kept.{Kept, IsKept, kept_rest}
-use Rattle.dcc_wire.specs.Outcomes.{outcome_of, by_bits, ones_left}
+use Rattle.dcc_wire.specs.Outcomes.{outcome_of, ones_left}
 use Rattle.dcc_wire.specs.Packed.{IsPacked, byte_bits, packed_bits}
+use Rattle.dcc_wire.specs.Inner.OutcomeParts.{by_bits}
 use Rattle.dcc_wire.proofs.BitLemmas.{half_of}
 use Rattle.dcc_wire.proofs.ByteBits.{cases_Option}
 use Rattle.dcc_wire.proofs.HistoryLemmas.{HasHistory, history_more}

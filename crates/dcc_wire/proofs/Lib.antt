@@ -1,5 +1,6 @@
 pub mod BitLemmas
 pub mod OutcomeLemmas
+pub mod OutcomesAt
 pub mod FramingLemmas
 pub mod KeptLemmas
 pub mod OpenBodies

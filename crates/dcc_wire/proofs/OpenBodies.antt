@@ -9,7 +9,8 @@ use Rattle.dcc_wire.specs.declared.seen.Seen.TheVariants.{Nothing, Refused}
 use Rattle.dcc_wire.specs.Bodies.{halves_of, first_half}
 use Rattle.dcc_wire.specs.Half.{bit_of}
 use Rattle.dcc_wire.specs.Inner.Steps.{answer_of}
-use Rattle.dcc_wire.specs.Outcomes.{bytes_in, bits_in, behind_bits, by_bits, by_halves, outcome_of}
+use Rattle.dcc_wire.specs.Outcomes.{bytes_in, bits_in, by_halves, outcome_of}
+use Rattle.dcc_wire.specs.Inner.OutcomeParts.{behind_bits, by_bits}
 use Rattle.dcc_wire.proofs.BitLemmas.{half_of, halves_of-bit}
 use Rattle.dcc_wire.proofs.OutcomeLemmas.{outcome_behind, outcome_of-bits}
 use mathlib.Core.Bool.{beq}

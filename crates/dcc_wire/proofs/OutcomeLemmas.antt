@@ -1,6 +1,6 @@
 -- Outcomes of longer lists.
-use Rattle.std.proofs.Common.{◌≡◌, ℕ, ◌+◌, ◌-◌, ◌*◌, ◌<◌, ◌≤◌, inl, inr, Bool, true, false, List, [], ◌∷◌, ◌++◌, length}
-use Rattle.std.proofs.Common.{length-append, drop, Some, None, refl, sym, ap, ◌∙◌, arith, Option, append_assoc}
+use Rattle.std.proofs.Common.{◌≡◌, ℕ, suc, ◌+◌, ◌-◌, ◌*◌, ◌<◌, ◌≤◌, inl, inr, Bool, true, false, List, [], ◌∷◌, ◌++◌}
+use Rattle.std.proofs.Common.{length, length-append, drop, Some, None, refl, sym, ap, ◌∙◌, arith, Option, append_assoc}
 use Rattle.std.proofs.Common.{append-nil, subst, ◌≢◌, ◌⊎◌}
 use Rattle.std.specs.Option.{option_map, option_or}
 use Rattle.std.proofs.Math.ListN.{drop_of_length-le}
@@ -14,24 +14,42 @@ use Rattle.dcc_wire.specs.declared.seen.Seen.TheVariants.{Nothing, Refused}
 use Rattle.dcc_wire.specs.Bodies.{halves_of}
 use Rattle.dcc_wire.specs.Framing.{ones_before, ones_at_end}
 use Rattle.dcc_wire.specs.Inner.Steps.{answer_of}
-use Rattle.dcc_wire.specs.Outcomes.{bytes_in, ones_left, bits_in, behind_bits, body_outcome, by_bits, by_halves}
+use Rattle.dcc_wire.specs.Outcomes.{bytes_in, ones_left, bits_in, body_outcome, by_halves}
 use Rattle.dcc_wire.specs.Outcomes.{outcome_of}
+use Rattle.dcc_wire.specs.Inner.OutcomeParts.{behind_bits, by_bits}
 use Rattle.dcc_wire.proofs.BitLemmas.{halves_read, halves_split, length-halves_of, half_of, halves_of-bit}
 use Rattle.dcc_wire.proofs.ByteBits.{cases_Option, some_same, bytes_in-more, bytes_in-long, next_bit}
+
+pub behind_bits_is : (halves : List Half) → behind_bits halves ≡ drop (2 * length (bits_in halves)) halves
+unfolding bits_in behind_bits
+behind_bits_is (One ∷ One ∷ halves) =
+    let count : 2 * length (true ∷ bits_in halves) ≡ suc (suc (2 * length (bits_in halves))) = omega arith in
+    behind_bits_is halves ∙ rw count refl
+behind_bits_is (Zero ∷ Zero ∷ halves) =
+    let count : 2 * length (false ∷ bits_in halves) ≡ suc (suc (2 * length (bits_in halves))) = omega arith in
+    behind_bits_is halves ∙ rw count refl
+behind_bits_is _ = refl
+
+pub outcome_parts : (halves : List Half)
+    → outcome_of halves ≡ option_or (option_map by_bits (bytes_in 6 (bits_in halves)))
+    (by_halves (2 * length (bits_in halves)) (behind_bits halves))
+unfolding outcome_of by_bits
+outcome_parts halves = rw (behind_bits_is halves) refl
 
 -- halves that make no bit, behind whole bits that close nothing
 pub outcome_behind : (bits : List Bool) (tail : List Half) → bytes_in 6 bits ≡ None → bits_in tail ≡ []
     → behind_bits tail ≡ tail → outcome_of (halves_of bits ++ tail) ≡ by_halves (2 * length bits) tail
-unfolding outcome_of
 outcome_behind bits tail none e f =
-    let w = halves_read bits tail in rw (w.0, w.1, e, f, append-nil bits, none)
+    let w = halves_read bits tail in
+    outcome_parts (halves_of bits ++ tail) ∙ rw (w.0, w.1, e, f, append-nil bits, none)
 
 -- whole bits alone
 pub outcome_of-bits : (bits : List Bool) → outcome_of (halves_of bits) ≡ option_map by_bits (bytes_in 6 bits)
-unfolding outcome_of bits_in behind_bits by_halves
+unfolding bits_in behind_bits by_halves
 outcome_of-bits bits =
     let w = halves_read bits [] in
-    ap outcome_of (sym (append-nil (halves_of bits))) ∙ rw (w.0, w.1, append-nil bits)
+    ap outcome_of (sym (append-nil (halves_of bits))) ∙ outcome_parts (halves_of bits ++ [])
+    ∙ rw (w.0, w.1, append-nil bits)
     (elim (cases_Option (bytes_in 6 bits)) [ inl none ↦ rw none | inr some ↦ rw some.1 ])
 
 -- an outcome stays what it is
@@ -43,18 +61,19 @@ by_halves-more n tail more v q e = grind arith
 
 pub outcome_of-more : (halves more : List Half) (v : ℕ × Seen) → outcome_of halves ≡ Some v
     → outcome_of (halves ++ more) ≡ Some v
-unfolding outcome_of
 outcome_of-more halves more v e =
+    let here = sym (outcome_parts halves) ∙ e in
     let bits = bits_in halves in
     let tail = behind_bits halves in
     let whole : halves ++ more ≡ halves_of bits ++ (tail ++ more) =
     ap (λ l. l ++ more) (sym (halves_split halves).0) ∙ append_assoc (halves_of bits) tail more in
     let read = halves_read bits (tail ++ more) in
-    ap outcome_of whole ∙ rw (read.0, read.1) (elim (cases_Option (bytes_in 6 bits)) [
+    ap outcome_of whole ∙ outcome_parts (halves_of bits ++ (tail ++ more))
+    ∙ rw (read.0, read.1) (elim (cases_Option (bytes_in 6 bits)) [
       | inl none ↦
-          let w = by_halves-more (2 * length bits) tail more v (halves_split halves).1 (rw none at e) in
+          let w = by_halves-more (2 * length bits) tail more v (halves_split halves).1 (rw none at here) in
           rw (w.0, append-nil bits, none) w.1
-      | inr some ↦ rw (bytes_in-more 6 bits (bits_in (tail ++ more)) some.0 some.1) (rw some.1 at e)
+      | inr some ↦ rw (bytes_in-more 6 bits (bits_in (tail ++ more)) some.0 some.1) (rw some.1 at here)
     ])
 
 -- one half more on an unfinished body
@@ -154,9 +173,8 @@ open_parts o b e = grind arith
 
 -- an unfinished body stays unfinished, or ends at the next half
 pub outcome_of-push : (halves : List Half) (half : Half) → outcome_of halves ≡ None → Grows halves half
-unfolding outcome_of
 outcome_of-push halves half e =
-    let parts = open_parts (bytes_in 6 (bits_in halves)) _ e in
+    let parts = open_parts (bytes_in 6 (bits_in halves)) _ (sym (outcome_parts halves) ∙ e) in
     subst (λ l. Grows l half) (halves_split halves).0
     (grows_by (bits_in halves) (behind_bits halves) half parts.0 (halves_split halves).1 parts.1)
 
@@ -169,16 +187,17 @@ by_halves-long n tail p e = grind arith
 
 pub outcome_of-long : (halves : List Half) (p : ℕ × Seen) → outcome_of halves ≡ Some p
     → (0 < p.0) × (p.0 ≤ length halves)
-unfolding outcome_of by_bits
+unfolding by_bits
 outcome_of-long halves p e =
+    let here = sym (outcome_parts halves) ∙ e in
     let bits = bits_in halves in
     let all : length halves ≡ 2 * length bits + length (behind_bits halves) =
     ap length (sym (halves_split halves).0)
     ∙ omega (arith, length-append (halves_of bits) (behind_bits halves), length-halves_of bits) in
     elim (cases_Option (bytes_in 6 bits)) [
-      | inl none ↦ omega (arith, all, by_halves-long (2 * length bits) (behind_bits halves) p (rw none at e))
+      | inl none ↦ omega (arith, all, by_halves-long (2 * length bits) (behind_bits halves) p (rw none at here))
       | inr some ↦
-          let count = ap (λ r. r.0) (some_same (rw some.1 at e)) in
+          let count = ap (λ r. r.0) (some_same (rw some.1 at here)) in
           omega (arith, all, count, bytes_in-long 6 bits some.0 some.1)
     ]
 
@@ -194,5 +213,5 @@ answer-open bits e = rw e
 
 -- no outcome is nothing
 pub outcome_of-something : (halves : List Half) → answer_of (outcome_of halves) ≡ Nothing → outcome_of halves ≡ None
-unfolding outcome_of answer_of by_bits by_halves body_outcome
+unfolding outcome_of answer_of by_halves body_outcome
 outcome_of-something halves e = grind arith

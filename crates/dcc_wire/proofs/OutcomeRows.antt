@@ -15,13 +15,14 @@ use Rattle.dcc_wire.specs.Frames.{IsFrame, AllBytes, xor_of}
 use Rattle.dcc_wire.specs.OutcomeLaws.{OutcomesAreRows, NoOutcomeIsUnfinished, SomeRowFits, OneRowFits}
 use Rattle.dcc_wire.specs.OutcomeLaws.{NoRowIsUnfinished}
 use Rattle.dcc_wire.specs.OutcomeTable.{IsOpen, IsUnpaired, IsRow, Comes, IsUnfinished}
-use Rattle.dcc_wire.specs.Outcomes.{bytes_in, bits_in, behind_bits, body_outcome, by_bits, by_halves, outcome_of}
+use Rattle.dcc_wire.specs.Outcomes.{bytes_in, bits_in, body_outcome, by_halves, outcome_of}
 use Rattle.dcc_wire.specs.Packed.{byte_bits}
+use Rattle.dcc_wire.specs.Inner.OutcomeParts.{behind_bits, by_bits}
 use Rattle.dcc_wire.proofs.BitLemmas.{halves_of-append, length-halves_of, halves_split}
 use Rattle.dcc_wire.proofs.ByteBits.{body_bits-end, length-byte_bits, length-body_bits, Reads, bytes_in-reads}
 use Rattle.dcc_wire.proofs.ByteBits.{bytes_in-closed, bytes_in-begins, cases_Option}
 use Rattle.dcc_wire.proofs.ByteLemmas.{AllBytes-index}
-use Rattle.dcc_wire.proofs.OutcomeLemmas.{open_parts, outcome_of-more, outcome_of-bits, outcome_behind}
+use Rattle.dcc_wire.proofs.OutcomeLemmas.{open_parts, outcome_of-more, outcome_of-bits, outcome_behind, outcome_parts}
 use Rattle.dcc_wire.proofs.SendingLemmas.{closed-packet, body_closed, outcome_of-body, unfinished as unfinished_body}
 
 -- open lists are the halves of bits that no bytes are read from
@@ -32,10 +33,9 @@ one_left n tail e = grind arith
 
 open-bits : (halves : List Half) → IsOpen halves
     → (bits : List Bool) × (halves ≡ halves_of bits) × (bytes_in 6 bits ≡ None)
-unfolding outcome_of
 open-bits halves h =
     let none = unfinished_body h.bytes halves h.begun.0 h.each (omega (arith, h.six)) (sym h.begun.1) h.shorter in
-    let parts = open_parts (bytes_in 6 (bits_in halves)) _ none in
+    let parts = open_parts (bytes_in 6 (bits_in halves)) _ (sym (outcome_parts halves) ∙ none) in
     let few = one_left (2 * length (bits_in halves)) (behind_bits halves) parts.1 in
     let all = ap length (halves_split halves).0 in
     let nothing : behind_bits halves ≡ [] =
@@ -214,16 +214,16 @@ module _ (bits : List Bool) (is_open : IsOpen (halves_of bits)) where
   row_open tail e = cc
 
 row : (more : List Half) → IsAnswer (Zero ∷ more) (outcome_of (Zero ∷ more))
-unfolding outcome_of
 row more =
     let halves : List Half = Zero ∷ more in
     let bits = bits_in halves in
     let tail = behind_bits halves in
     let whole = (halves_split halves).0 in
-    subst (λ l. IsAnswer l (outcome_of halves)) whole (elim (cases_Option (bytes_in 6 bits)) [
+    subst (λ l. IsAnswer l (outcome_of halves)) whole
+    (rw (outcome_parts halves) (elim (cases_Option (bytes_in 6 bits)) [
       | inl none ↦ rw none (row_open bits (bits-open bits none) tail (halves_split halves).1)
       | inr (p, e) ↦ rw e (row_read bits tail more p.0 p.1 (bytes_in-reads 6 bits p e) whole)
-    ])
+    ]))
 
 -- the laws
 

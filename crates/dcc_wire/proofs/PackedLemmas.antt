@@ -7,8 +7,9 @@ use Rattle.std.proofs.Math.Nat.{pow-suc, div-eq_of_lt, pow-le-pow_right}
 use Rattle.dcc_wire.specs.Bodies.{bits_of}
 use Rattle.dcc_wire.specs.Frames.{AllBytes, xor_of}
 use Rattle.dcc_wire.specs.Inner.Steps.{answer_of}
-use Rattle.dcc_wire.specs.Outcomes.{bytes_in, by_bits}
+use Rattle.dcc_wire.specs.Outcomes.{bytes_in}
 use Rattle.dcc_wire.specs.Packed.{IsPacked, byte_bits, packed_bits}
+use Rattle.dcc_wire.specs.Inner.OutcomeParts.{by_bits}
 use Rattle.dcc_wire.proofs.ByteBits.{bits_of-bit, byte_bits-append, length-bits_of, AllBytes-append, bytes_in-byte}
 use Rattle.dcc_wire.proofs.ByteBits.{bytes_in-closed, zero_short}
 use Rattle.dcc_wire.proofs.ErrorByte.{xor_of-append}

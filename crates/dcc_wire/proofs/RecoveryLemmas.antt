@@ -17,18 +17,19 @@ use Rattle.dcc_wire.specs.Bodies.{bits_of, body_bits, halves_of}
 use Rattle.dcc_wire.specs.Framing.{Rest, Hunting, InBody, rest, seen, report_at, rest_at, hunting, starts}
 use Rattle.dcc_wire.specs.Half.{class_of}
 use Rattle.dcc_wire.specs.Inner.Steps.{rest_after, answer_to, answer_of, left_of}
-use Rattle.dcc_wire.specs.Outcomes.{bytes_in, ones_left, bits_in, behind_bits, by_bits, by_halves, outcome_of}
+use Rattle.dcc_wire.specs.Outcomes.{bytes_in, ones_left, bits_in, by_halves, outcome_of}
 use Rattle.dcc_wire.specs.Recovery.{ended_by_ones, open_end, at_open_end, at_first}
 use Rattle.dcc_wire.specs.Recovery.{NoiseCostsNoLaterPacket, NoiseCostsAtMostTheFirst, OpenBodiesEndSoon}
 use Rattle.dcc_wire.specs.Recovery.{NoiseBetweenBodiesCostsNothing, LongPreamblesLoseNothing, OneOfThreeCopiesIsSeen}
 use Rattle.dcc_wire.specs.Runs.{ones_after}
 use Rattle.dcc_wire.specs.Frames.{IsFrame}
 use Rattle.dcc_wire.specs.Sending.{durations_of, sent, Sent, sent_all, at_last_halves, AllFrames}
+use Rattle.dcc_wire.specs.Inner.OutcomeParts.{behind_bits, by_bits}
 use Rattle.dcc_wire.proofs.BitLemmas.{halves_split, halves_of-append, length-halves_of}
 use Rattle.dcc_wire.proofs.ByteBits.{cases_Option, some_same, nine_ones, length-bits_of}
 use Rattle.dcc_wire.proofs.FramingLemmas.{rest-push, seen-push, reported_something}
 use Rattle.dcc_wire.proofs.OutcomeLemmas.{outcome_of-push, outcome_of-more, outcome_of-long, outcome_of-bits}
-use Rattle.dcc_wire.proofs.OutcomeLemmas.{outcome_behind, ones_left-closed, open_parts}
+use Rattle.dcc_wire.proofs.OutcomeLemmas.{outcome_behind, outcome_parts, ones_left-closed, open_parts}
 use Rattle.dcc_wire.proofs.RunLemmas.{skips, ones_after_one, replicate_more, run_on}
 use Rattle.dcc_wire.proofs.SendingLemmas.{classes, body_delivered, packets_delivered, sent-parts}
 use Rattle.dcc_wire.proofs.SendingLemmas.{durations_of-append, sent_delivered, seen-sent_all}
@@ -153,9 +154,8 @@ end_by bits (Zero ∷ Zero ∷ tail) none e n = cc
 end_by bits tail none e n = cc
 
 end_of : (halves : List Half) → outcome_of halves ≡ None → End halves
-unfolding outcome_of
 end_of halves e =
-    let parts = open_parts (bytes_in 6 (bits_in halves)) _ e in
+    let parts = open_parts (bytes_in 6 (bits_in halves)) _ (sym (outcome_parts halves) ∙ e) in
     subst End (halves_split halves).0
     (end_by (bits_in halves) (behind_bits halves) parts.0 (halves_split halves).1 parts.1)
 

@@ -1,7 +1,7 @@
 -- More halves only add to what was seen.
 use Rattle.std.proofs.Common.{◌≡◌, ℕ, List, [], ◌∷◌, ◌++◌, length, refl, sym, ap, ◌∙◌, append_assoc, append-nil}
 use Rattle.dcc_wire.specs.declared.seen.Seen.{Seen}
-use Rattle.dcc_wire.specs.Framing.{rest, seen, report_at, starts_below, outcomes_at}
+use Rattle.dcc_wire.specs.Framing.{rest, seen, report_at, starts_below}
 use Rattle.dcc_wire.specs.Half.{class_of}
 use Rattle.dcc_wire.specs.Inner.Steps.{answer_to}
 use Rattle.dcc_wire.specs.SeenLaws.{SeenOnlyGrows}
@@ -18,5 +18,5 @@ seen-grows halves (us ∷ more) =
     )
 
 pub seen-none : seen [] ≡ []
-unfolding seen starts_below outcomes_at
+unfolding seen starts_below
 seen-none = refl

@@ -12,13 +12,14 @@ use Rattle.dcc_wire.specs.declared.seen.Seen.TheVariants.{Packet}
 use Rattle.dcc_wire.specs.declared.timing.Timing.{Timing}
 use Rattle.dcc_wire.specs.Bodies.{bits_of, body_bits, halves_of, body}
 use Rattle.dcc_wire.specs.Frames.{IsFrame, AllBytes, xor_of}
-use Rattle.dcc_wire.specs.Framing.{Hunting, InBody, rest, seen, report_at, starts_below, outcomes_at, ones_before}
+use Rattle.dcc_wire.specs.Framing.{Hunting, InBody, rest, seen, report_at, starts_below, ones_before}
 use Rattle.dcc_wire.specs.Framing.{ones_at_end, rest_at, hunting, used_up}
 use Rattle.dcc_wire.specs.Half.{class_of}
 use Rattle.dcc_wire.specs.Inner.Steps.{rest_after, answer_to, answer_of, left_of}
-use Rattle.dcc_wire.specs.Outcomes.{bytes_in, ones_left, bits_in, behind_bits, body_outcome, by_bits, by_halves}
+use Rattle.dcc_wire.specs.Outcomes.{bytes_in, ones_left, bits_in, body_outcome, by_halves}
 use Rattle.dcc_wire.specs.Outcomes.{outcome_of}
 use Rattle.dcc_wire.specs.Sending.{durations_of, sent_bits, sent, Sent, sent_all, at_last_halves, AllFrames}
+use Rattle.dcc_wire.specs.Inner.OutcomeParts.{behind_bits, by_bits}
 use Rattle.dcc_wire.proofs.BitLemmas.{length-halves_of}
 use Rattle.dcc_wire.proofs.ByteBits.{cases_Option, some_same, length-body_bits, bytes_in-body}
 use Rattle.dcc_wire.proofs.ByteLemmas.{AllBytes-of}
@@ -175,5 +176,5 @@ packets_delivered durations before (packet ∷ packets) all few hunts =
     ∙ rw (one.outcomes, length-append durations halves, append_assoc (seen durations))
 
 pub seen-sent_all : (packets : List Sent) → AllFrames packets → seen (sent_all packets) ≡ at_last_halves 0 packets
-unfolding rest seen rest_at hunting outcomes_at starts_below used_up ones_at_end ones_before
+unfolding rest seen rest_at hunting starts_below used_up ones_at_end ones_before
 seen-sent_all packets all = packets_delivered [] 0 packets all (omega arith) refl

@@ -6,10 +6,12 @@ use Rattle.dcc_wire.specs.declared.seen.Fault.TheVariants.{BadHalf, SplitBit, To
 use Rattle.dcc_wire.specs.declared.seen.Seen.{Seen}
 use Rattle.dcc_wire.specs.declared.seen.Seen.TheVariants.{Refused, Packet}
 use Rattle.dcc_wire.specs.Bodies.{bits_of, body_bits, halves_of, body, number_of}
-use Rattle.dcc_wire.specs.Framing.{seen, starts_below, outcomes_at, ones_before, ones_at_end, used_up, halves_used}
-use Rattle.dcc_wire.specs.Framing.{is_start, outcome_at}
-use Rattle.dcc_wire.specs.Outcomes.{bytes_in, ones_left, bits_in, behind_bits, body_outcome, by_bits, by_halves}
+use Rattle.dcc_wire.specs.Framing.{seen, starts_below, ones_before, ones_at_end, used_up}
+use Rattle.dcc_wire.specs.Framing.{is_start}
+use Rattle.dcc_wire.specs.Outcomes.{bytes_in, ones_left, bits_in, body_outcome, by_halves}
 use Rattle.dcc_wire.specs.Outcomes.{outcome_of}
+use Rattle.dcc_wire.specs.Inner.OutcomesAt.{outcome_at, outcomes_at}
+use Rattle.dcc_wire.specs.Inner.OutcomeParts.{behind_bits, by_bits}
 
 -- halves of a one and of a zero as a station sends them, and a bad one
 durations_of : List Half → List ℕ
@@ -55,7 +57,7 @@ record Rows : Type 0 where
       ∷ (241, Packet (3 ∷ 127 ∷ 124 ∷ [])) ∷ []
 
 rows : Rows
-unfolding after_noise seen_behind durations_of seen outcome_at outcomes_at starts_below is_start used_up halves_used
+unfolding after_noise seen_behind durations_of seen outcome_at outcomes_at starts_below is_start used_up
     ones_at_end ones_before outcome_of bits_in behind_bits bytes_in body_outcome by_bits by_halves ones_left body
     halves_of
     body_bits

@@ -1,8 +1,9 @@
 -- The outcomes in a list of half-bits (NMRA S-9.2; RCN-211). The definition computes the places at
 -- which bodies begin in the whole list.
-use Rattle.std.specs.Prelude.{◌≡◌, ℕ, suc, zero, ◌+◌, ◌-◌, min, nat_le, Bool, true, false, ◌&&◌, List, [], ◌∷◌, ◌++◌}
+use Rattle.std.specs.Prelude.{◌≡◌, ℕ, suc, zero, ◌+◌, ◌-◌, min, nat_le, Bool, true, false, ◌&&◌, List, [], ◌∷◌}
 use Rattle.std.specs.Prelude.{map, reverse, length, take, drop, slice_index_or, if◌then◌else◌}
-use Rattle.std.specs.Option.{option_map_or}
+use Rattle.std.specs.Option.{option_map, option_map_or}
+use Rattle.std.specs.List.{filter_map}
 use Rattle.dcc_wire.specs.declared.half.Half.{Half}
 use Rattle.dcc_wire.specs.declared.half.Half.TheVariants.{One, Zero, Bad}
 use Rattle.dcc_wire.specs.declared.seen.Seen.{Seen}
@@ -23,18 +24,15 @@ is_zero One = false
 is_zero Zero = true
 is_zero Bad = false
 
--- the number of half-bits that the body at the beginning of `halves` uses. If the body has an
--- outcome, it uses the half-bits of the outcome, except the half-bits of an end bit. If the body is
--- unfinished, it uses all half-bits.
-unfoldable pub halves_used : List Half → ℕ
-halves_used halves = option_map_or (λ p. p.0 - ones_left p.1) (outcome_of halves) (length halves)
-
 -- the place in `halves` after the last half-bit that a body uses. The second argument is the list
 -- of the places at which the bodies begin, in descending order. If this list is empty, the result
--- is 0.
+-- is 0. The last body uses the half-bits of its outcome, except the half-bits of an end bit. If it
+-- is unfinished, it uses all half-bits.
 unfoldable pub used_up : List Half → List ℕ → ℕ
 used_up halves [] = 0
-used_up halves (start ∷ earlier) = start + halves_used (drop start halves)
+used_up halves (start ∷ earlier) =
+    let body = drop start halves in
+    start + option_map_or (λ p. p.0 - ones_left p.1) (outcome_of body) (length body)
 
 -- true if a body begins at `place` in `halves`: the half-bit at `place` is a zero, and at least 20
 -- half-bits of ones are directly before `place`. No body that begins at a place in `earlier` uses
@@ -52,24 +50,18 @@ starts_below halves (suc place) =
     let earlier = starts_below halves place in
     if is_start halves earlier place then place ∷ earlier else earlier
 
+-- the places in `halves` at which a body begins, in descending order
 abbrev pub starts : List Half → List ℕ
 starts halves = starts_below halves (length halves)
 
--- a list with the outcome of the body that begins at the place `start` in `halves`, and the place
--- of the last half-bit of this outcome. If the body is unfinished, the list is empty.
-unfoldable pub outcome_at : List Half → ℕ → List (ℕ × Seen)
-outcome_at halves start =
-    option_map_or (λ p. (start + p.0 - 1, p.1) ∷ []) (outcome_of (drop start halves)) []
-
--- the outcomes of those bodies in `halves` that begin at the places of a list. The places are in
--- descending order, and the outcomes are in ascending order.
-unfoldable pub outcomes_at : List Half → List ℕ → List (ℕ × Seen)
-outcomes_at halves [] = []
-outcomes_at halves (start ∷ earlier) = outcomes_at halves earlier ++ outcome_at halves start
-
--- each outcome in the list of half-bits `durations`, with the place of its last half-bit
+-- each outcome in the list of half-bits `durations`, with the place of its last half-bit. An
+-- unfinished body has no outcome.
 unfoldable pub seen : List ℕ → List (ℕ × Seen)
-seen durations = let halves = map class_of durations in outcomes_at halves (starts halves)
+seen durations =
+    let halves = map class_of durations in
+    filter_map
+    (λ start. option_map (λ p. (start + p.0 - 1, p.1)) (outcome_of (drop start halves)))
+    (reverse (starts halves))
 
 -- the state of a framer. Between two bodies it is the number of half-bits of ones, at most 20. In
 -- an unfinished body it is the list of the half-bits of this body.

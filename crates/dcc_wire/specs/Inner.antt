@@ -1,3 +1,5 @@
 -- Definitions that only contracts of private functions use.
 pub mod Steps
+pub mod OutcomeParts
+pub mod OutcomesAt
 pub mod KeptSteps

@@ -18,12 +18,6 @@ bits_in (One ∷ One ∷ halves) = true ∷ bits_in halves
 bits_in (Zero ∷ Zero ∷ halves) = false ∷ bits_in halves
 bits_in _ = []
 
--- the half-bits of a list after the half-bits of the bits that `bits_in` returns
-unfoldable pub behind_bits : List Half → List Half
-behind_bits (One ∷ One ∷ halves) = behind_bits halves
-behind_bits (Zero ∷ Zero ∷ halves) = behind_bits halves
-behind_bits halves = halves
-
 -- the bytes at the beginning of a list of bits, and the bit after the last byte. There is a zero
 -- before each byte. The bytes end if a one is in the place of this zero, or after `n` bytes. If the
 -- list of bits ends earlier, the result is `None`.
@@ -42,11 +36,6 @@ body_outcome bytes =
     if nat_lt (length bytes) 3 then Refused TooShort
     else (if xor_of bytes == 0 then Packet bytes else Refused (ErrorByte bytes))
 
--- the number of half-bits of a body, and its outcome. The body consists of the bytes `p.0` and then
--- the bit `p.1`.
-unfoldable pub by_bits : List ℕ × Bool → ℕ × Seen
-by_bits p = (18 * length p.0 + 2, if p.1 then body_outcome p.0 else Refused TooLong)
-
 -- the outcome of a body, and its number of half-bits. The first `n` half-bits of the body form
 -- bits. The given list has the next half-bits, of which the first two form no bit. If the body is
 -- unfinished, the result is `None`.
@@ -58,12 +47,14 @@ by_halves n (half ∷ Bad ∷ halves) = Some (n + 2, Refused BadHalf)
 by_halves n (half ∷ other ∷ halves) = Some (n + 2, Refused SplitBit)
 
 -- the outcome of the body at the beginning of `halves`, and its number of half-bits. If the body is
--- unfinished, the result is `None`.
+-- unfinished, the result is `None`. A body ends with the bit after its bytes, or with two half-bits
+-- that form no bit.
 unfoldable pub outcome_of : List Half → Option (ℕ × Seen)
 outcome_of halves =
+    let bits = bits_in halves in
     option_or
-    (option_map by_bits (bytes_in 6 (bits_in halves)))
-    (by_halves (2 * length (bits_in halves)) (behind_bits halves))
+    (option_map (λ p. (18 * length p.0 + 2, if p.1 then body_outcome p.0 else Refused TooLong)) (bytes_in 6 bits))
+    (by_halves (2 * length bits) (drop (2 * length bits) halves))
 
 -- the number of half-bits of ones that count for the next preamble after an outcome. If an end bit
 -- ends the body, the number is 2, otherwise 0.

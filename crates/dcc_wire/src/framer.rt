@@ -74,7 +74,12 @@ impl Framer {
 
         ensures hunts { result ≢ Seen.Nothing → self.new ≡ Hunting (ones_left result) }
     {
-        self.take_half(Half::of(us))
+        // a known class for each call, so that the compiler makes shorter code for each class
+        match Half::of(us) {
+            Half::One => self.take_half(Half::One),
+            Half::Zero => self.take_half(Half::Zero),
+            Half::Bad => self.take_half(Half::Bad),
+        }
     }
 
     #[tactic(auto, unfolding(crate::specs::Inner::Steps::rest_after, crate::specs::Inner::Steps::answer_to, crate::specs::Inner::Steps::left_of, crate::specs::Inner::Steps::answer_of))]

@@ -31,8 +31,9 @@ impl Model for PackedBits {
 impl PackedBits {
     ghost use Rattle.std.specs.Prelude.{◌≡◌, ◌++◌, [], ◌∷◌, None};
     ghost use Rattle.std.specs.Option.{option_map};
-    ghost use Rattle.dcc_wire.specs.Outcomes.{bytes_in, by_bits};
+    ghost use Rattle.dcc_wire.specs.Outcomes.{bytes_in};
     ghost use Rattle.dcc_wire.specs.Inner.Steps.{answer_of};
+    ghost use Rattle.dcc_wire.specs.Inner.OutcomeParts.{by_bits};
 
     /// Creates a body without bits.
     pub fn new() -> PackedBits

@@ -8,7 +8,8 @@ use Rattle.dcc_packet.specs.declared.packet.Packet.TheVariants.{Idle, Loco as To
 use Rattle.dcc_regs.specs.declared.register.Who.{Who}
 use Rattle.dcc_regs.specs.declared.register.SpeedMode.{SpeedMode}
 use Rattle.dcc_regs.specs.declared.register.Register.{Register}
-use Rattle.dcc_regs.specs.Heard.{hears, is_full_reset, address_of}
+use Rattle.dcc_regs.specs.Heard.{hears, address_of}
+use Rattle.dcc_regs.specs.Outputs.{is_full_reset}
 use Rattle.dcc_regs.specs.Inner.HearsByAddress.{is_for}
 use Rattle.dcc_regs.specs.Effects.{Differ}
 use Rattle.dcc_regs.specs.Sets.{sets}

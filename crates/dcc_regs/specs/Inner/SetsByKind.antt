@@ -12,8 +12,7 @@ use Rattle.dcc_regs.specs.declared.register.Value.TheVariants.{Speed as SpeedVal
 use Rattle.dcc_regs.specs.Speeds.{speed_set, direction_set}
 use Rattle.dcc_regs.specs.FunctionBits.{function_set}
 use Rattle.dcc_regs.specs.States.{state_set}
-use Rattle.dcc_regs.specs.Outputs.{out_set, position_set, aspect_set}
-use Rattle.dcc_regs.specs.Sets.{side}
+use Rattle.dcc_regs.specs.Outputs.{out_set, position_set, aspect_set, side}
 
 -- the value to which packet `p` sets a plain register. The decoder has the speed mode `mode`. If
 -- `p` does not set the register, the result is `None`.

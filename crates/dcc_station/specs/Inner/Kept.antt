@@ -10,7 +10,7 @@ use Rattle.dcc_packet.specs.declared.instruction.What.{What}
 use Rattle.dcc_packet.specs.declared.instruction.What.TheVariants.{Reset, Speed28, Speed128, Functions}
 use Rattle.dcc_packet.specs.declared.packet.Packet.{Packet}
 use Rattle.dcc_packet.specs.declared.packet.Packet.TheVariants.{Loco}
-use Rattle.dcc_regs.specs.FunctionBits.{first_function}
+use Rattle.dcc_regs.specs.Inner.GroupParts.{first_function}
 use Rattle.dcc_regs.specs.Writes.{writes_mode}
 use Rattle.dcc_station.specs.Commands.{is_refreshed}
 

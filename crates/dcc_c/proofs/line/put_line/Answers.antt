@@ -9,7 +9,7 @@ as_padded put bytes line e f = rw (e, f) refl
 
 pub returns : goal.returns
 returns c =
-    let read = c.as_bytes-bytes.ensures.value ∙ c.as_str.ensures.value ∙ c.line_of-text.ensures in
+    let read = c.as_bytes-bytes.ensures.value ∙ c.as_str.ensures.value ∙ c.put_line.ensures in
     let zeros = drop-replicate (length c.as_bytes-bytes.result.now) 41 0 in
     ap (λ (rest : List ℕ). c.copy_from_slice.new.self ++ rest) zeros
     ∙ as_padded _ _ _ c.copy_from_slice.ensures.after read

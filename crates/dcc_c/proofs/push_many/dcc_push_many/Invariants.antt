@@ -7,7 +7,7 @@ abbrev pub invariant-halves : goal.invariant-halves
 invariant-halves l = record {
   within : l.at ≤ length l.halves;
   stands : (track : List ℕ) → StandsFor (kept_rest l.initial.framer) track
-      → StandsFor l.inner (track ++ take l.at l.halves);
+      → StandsFor (kept_rest l.framer) (track ++ take l.at l.halves);
   sees : (track : List ℕ) → StandsFor (kept_rest l.initial.framer) track
       → seen (track ++ take l.at l.halves) ≡ seen track;
   outcome : l.outcome ≡ l.initial.outcome;

@@ -1,5 +1,5 @@
 use Rattle.std.proofs.Common.{ap, ◌∙◌, ◌-◌, ◌^◌, ◌/◌}
-use Rattle.dcc_regs.specs.FunctionBits.{count_of, first_function}
+use Rattle.dcc_regs.specs.Inner.GroupParts.{count_of, first_function}
 use Rattle.dcc_regs.proofs.GroupMask.{group_masked}
 use Rattle.dcc_regs.proofs.function_bits.group_set.Goals as goal
 

@@ -1,4 +1,4 @@
-use Rattle.std.proofs.Common.{◌≡◌, ◌∙◌, ◌-◌, ◌^◌, arith, refl}
+use Rattle.std.proofs.Common.{◌≡◌, ◌∙◌, ◌-◌, ◌^◌, arith}
 use Rattle.std.specs.Prelude.{if◌then◌else◌}
 use Rattle.dcc_regs.proofs.Packing.{shifted_one_128}
 use Rattle.dcc_station.proofs.FunctionLemmas.{turned_over}

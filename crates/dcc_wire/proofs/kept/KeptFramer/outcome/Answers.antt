@@ -5,8 +5,8 @@ use Rattle.dcc_wire.specs.declared.seen.Seen.TheVariants.{Nothing, Refused}
 use Rattle.dcc_wire.specs.Half.{bit_of}
 use Rattle.dcc_wire.specs.Inner.Steps.{answer_to}
 use Rattle.dcc_wire.specs.Kept.{Kept, IsKept, kept_rest}
-use Rattle.dcc_wire.specs.Outcomes.{by_bits}
 use Rattle.dcc_wire.specs.Packed.{IsPacked}
+use Rattle.dcc_wire.specs.Inner.OutcomeParts.{by_bits}
 use Rattle.dcc_wire.proofs.KeptLemmas.{shows_in_body, bad_answer, split_answer, whole_answer, shows_no_room}
 use Rattle.dcc_wire.proofs.kept.KeptFramer.outcome.Goals as goal
 use mathlib.Core.Bool.{beq, not}

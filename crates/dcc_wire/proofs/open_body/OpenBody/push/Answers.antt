@@ -12,7 +12,7 @@ returns-in_default-clause-answer c =
 pub returns-in-None : goal.returns-in-None
 returns-in-None c =
     let bits = c.self.inside.bits in
-    let halves = with_half bits c.args.half c.self.view_is (sym c.take-first.ensures.value ∙ c.in-None.is)
+    let halves = with_half bits c.args.half c.self.view_is c.in-None.is
     (sym c.bit.ensures ∙ c.in-Some.is) in
     record {
       answer = rw halves (sym (answer-first bits c.self.invariant c.in-Some.bit));
@@ -24,20 +24,20 @@ unfolding first_half
 returns-in-Some-first c =
     let bits = c.self.inside.bits in
     let halves = with_half bits c.args.half c.self.view_is
-    (sym c.take-first.ensures.value ∙ c.in-Some-first.is
+    (c.in-Some-first.is
     ∙ ap Some (bits_same c.in-Some-first.first c.in-Some.bit c.if-first-bit.true))
     (sym c.bit.ensures ∙ c.in-Some.is) in
     record {
       answer = rw halves (c.push.ensures.answer ∙ sym (answer-bit bits c.in-Some.bit));
       unfinished = λ nothing.
-          rw (c.push.ensures.added nothing, c.take-first.ensures.after, halves, append-nil)
+          rw (c.push.ensures.added nothing, halves, append-nil)
           (bit_more bits c.in-Some.bit);
     }
 
 pub returns-in-Some-2-clause-answer : goal.returns-in-Some-2-clause-answer
 returns-in-Some-2-clause-answer c =
     let bits = c.self.inside.bits in
-    let halves = with_half bits c.args.half c.self.view_is (sym c.take-first.ensures.value ∙ c.in-Some-first.is)
+    let halves = with_half bits c.args.half c.self.view_is c.in-Some-first.is
     (sym c.bit.ensures ∙ c.in-Some.is) in
     rw halves
     (sym (answer-split bits c.self.invariant c.in-Some-first.first c.in-Some.bit

@@ -1,7 +1,7 @@
 use Rattle.std.proofs.Common.{◌≡◌, ◌+◌, ◌*◌, ◌<◌, true, false, cond, [], ◌∷◌, ◌++◌, length, sym, ◌∙◌, arith}
 use Rattle.std.proofs.lemmas.Bool.Decides.{nat_tests}
-use Rattle.dcc_wire.specs.Outcomes.{by_bits}
 use Rattle.dcc_wire.specs.Packed.{packed_bits}
+use Rattle.dcc_wire.specs.Inner.OutcomeParts.{by_bits}
 use Rattle.dcc_wire.proofs.ByteBits.{byte_of_bool}
 use Rattle.dcc_wire.proofs.OutcomeLemmas.{answer-open, something_closed}
 use Rattle.dcc_wire.proofs.PackedLemmas.{answer-closed, packed_bits-byte, packed_bits-more, packed_more, packed_open}
