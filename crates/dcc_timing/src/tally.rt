@@ -7,10 +7,9 @@ ghost use Rattle.std.specs.Prelude.{◌<◌, ◌≤◌, ◌*◌, ◌^◌};
 #[repr(C)]
 #[derive(Clone, Copy, Debug, PartialEq, Eq)]
 pub struct Tally {
-    // `count` and `sum` stand apart, so that the compiler adds to each of them by one instruction
     count: u64,
-    least: u64,
     sum: u64,
+    least: u64,
     most: u64,
     ghost few: { count < 2 ^ 40 },
     ghost fits: { sum ≤ 131072 * count },
@@ -37,8 +36,8 @@ impl Tally {
     {
         Tally {
             count: 0,
-            least: 0,
             sum: 0,
+            least: 0,
             most: 0,
         }
     }
