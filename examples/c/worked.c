@@ -5,7 +5,12 @@
 #include <stdio.h>
 #include <string.h>
 
+#ifdef __AVR__
+/* the texts of the conditions would take 25 KB of the 64 KB of memory */
+#define HOLDS(condition) holds(condition, "", __LINE__)
+#else
 #define HOLDS(condition) holds(condition, #condition, __LINE__)
+#endif
 
 static int wrong = 0;
 
