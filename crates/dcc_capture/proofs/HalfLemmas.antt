@@ -1,15 +1,16 @@
 -- What the half of a word at hand says of a capture.
-use Rattle.std.proofs.Common.{◌≡◌, ℕ, List, [], ◌∷◌, length, false, eqb, None, Some, Ok, refl, ap, arith}
+use Rattle.std.proofs.Common.{◌≡◌, ◌<◌, ◌≤◌, ℕ, suc, zero, take, List, [], ◌∷◌, length, false, eqb, None, Some, Ok, refl, ap, arith}
 use Rattle.std.proofs.lemmas.Bool.{and_parts, false_from_ne_true, eqb-true}
 use Rattle.std.specs.List.{list_all}
 use Rattle.std.specs.Char.{is_ascii_digit}
 use Rattle.dcc_io.specs.InputState.{InputState}
 use Rattle.dcc_io.specs.declared.word.Run.{Run}
 use Rattle.dcc_io.specs.Words.{is_dash, is_mark, run_of}
-use Rattle.dcc_io.specs.Counted.{TakesHalf, TakesRun}
+use Rattle.dcc_io.specs.Counted.{TakesHalf, TakesHalves, TakesRun}
 use Rattle.dcc_io.proofs.FrontLemmas.{digit_bounds, duration_parts}
 use Rattle.dcc_io.proofs.SpellsLemmas.{no_star_in, before_all}
-use Rattle.dcc_capture.specs.Capture.{AnswersRun}
+use Rattle.dcc_capture.specs.Capture.{AnswersRun, GaveHalves}
+use Rattle.dcc_capture.proofs.LinesLemmas.{GaveHalves-append, GaveHalves-none}
 use Rattle.dcc_capture.specs.FirstRead.{AnswersFirst}
 use Rattle.dcc_capture.proofs.RunWordLemmas.{run_of_duration, spelled_parts, some_half}
 use Rattle.dcc_capture.proofs.CaptureLemmas.{Gave-word}
@@ -63,3 +64,26 @@ half_taken takes = run_taken (as_run takes)
 pub first_half_taken : {old new : InputState} {us : ℕ} (before : ℕ) → old.fault ≡ None → TakesHalf old us new
     → AnswersFirst before old (Ok (Some (old.place.line, record { us = us; n = 1 }))) new
 first_half_taken before none takes = first_run_taken before none (as_run takes)
+
+-- durations of words that were taken one after the other are the next half-bits of a capture
+pub halves_taken : (old new : InputState) (halves : List ℕ) → old.fault ≡ None → TakesHalves old halves new
+    → GaveHalves old halves new
+halves_taken old new [] fault same = rw same (GaveHalves-none old fault)
+halves_taken old new (us ∷ halves) fault takes =
+    let one = (half_taken takes.1).0 in
+    GaveHalves-append old takes.0 new (us ∷ []) halves one
+    (halves_taken takes.0 new halves one.items.fault takes.2)
+
+pub fewer_bytes : (old new : InputState) (halves : List ℕ) → old.fault ≡ None → TakesHalves old halves new
+    → 0 < length halves → new.bytes < old.bytes
+fewer_bytes old new [] fault same some = absurd (omega arith)
+fewer_bytes old new (us ∷ halves) fault takes some =
+    let one = (half_taken takes.1).0 in
+    let later = (halves_taken takes.0 new halves one.items.fault takes.2).items.bytes in
+    omega (arith, later, takes.1.fewer)
+
+-- no word at hand was taken
+pub none_taken : (old new : InputState) (halves : List ℕ) (count : ℕ) → count ≤ 0 → TakesHalves old (take count halves) new
+    → new ≡ old
+none_taken old new halves zero few taken = taken
+none_taken old new halves (suc count) few taken = absurd (omega arith)

@@ -2,6 +2,7 @@ pub mod RunWordLemmas
 pub mod CaptureLemmas
 pub mod BothLemmas
 pub mod HalfLemmas
+pub mod HoldLemmas
 pub mod ListingLaws
 pub mod NumbersTaken
 pub mod WorkedExamples

@@ -128,46 +128,44 @@ module _ {A : Type 0} {IsLineOf : ℕ → A → List ℕ → Type 0} {items : Li
       failures = same ∙ listing.failures;
     }
 
-    module _ {now new : InputState} {held : List ℕ} {after : WriterState} (run : Run)
-        (listing : Listing IsLineOf items Follows start now held before after)
-        (gave : GaveHalves now (replicate run.n run.us) new) where
-      -- how many halves were taken, from how many may be taken before the first and behind the run
-      pub counted : {most left : ℕ} → most ≡ start.halves → left ≡ new.halves
-          → most - left ≡ length listing.halves + run.n
-      counted first behind =
-          let taken = rw (length-replicate run.n run.us) at gave.left in omega (arith, listing.gave.left, taken)
+    module _ {now new : InputState} {held : List ℕ} {after : WriterState} (given : List ℕ)
+        (listing : Listing IsLineOf items Follows start now held before after) (gave : GaveHalves now given new) where
+      -- how many halves were taken, from how many may be taken before the first and behind these
+      pub counted_halves : {most left : ℕ} → most ≡ start.halves → left ≡ new.halves
+          → most - left ≡ length listing.halves + length given
+      counted_halves first behind = omega (arith, listing.gave.left, gave.left)
 
-      all : GaveHalves start (listing.halves ++ replicate run.n run.us) new
-      all = GaveHalves-append start now new listing.halves (replicate run.n run.us) listing.gave gave
+      all : GaveHalves start (listing.halves ++ given) new
+      all = GaveHalves-append start now new listing.halves given listing.gave gave
 
-      -- one more run adds the lines of its items
+      -- more halves add the lines of their items
       lists_more : (some line : List ℕ) (more : List (ℕ × A)) → items (listing.halves ++ some) ≡ items listing.halves
           ++ more
           → AreLines IsLineOf more line → AreLines IsLineOf (items (listing.halves ++ some)) (listing.text ++ line)
       lists_more some line more adds here =
           rw adds (AreLines-append IsLineOf (items listing.halves) more listing.text line listing.lists here)
 
-      pub Listing-run : {Next : List ℕ → Type 0} (line : List ℕ) {left : List ℕ} {then : WriterState}
-          (more : List (ℕ × A)) → Next (listing.halves ++ replicate run.n run.us)
-          → items (listing.halves ++ replicate run.n run.us) ≡ items listing.halves ++ more
+      pub Listing-halves : {Next : List ℕ → Type 0} (line : List ℕ) {left : List ℕ} {then : WriterState}
+          (more : List (ℕ × A)) → Next (listing.halves ++ given)
+          → items (listing.halves ++ given) ≡ items listing.halves ++ more
           → AreLines IsLineOf more line → Holds after then (held ++ line) left → then.failures ≡ after.failures
           → Listing IsLineOf items Next start new left before then
-      Listing-run line more stands adds here wrote same = record {
-        halves = listing.halves ++ replicate run.n run.us;
+      Listing-halves line more stands adds here wrote same = record {
+        halves = listing.halves ++ given;
         gave = all;
         stands = stands;
         text = listing.text ++ line;
-        lists = lists_more (replicate run.n run.us) line more adds here;
+        lists = lists_more given line more adds here;
         holds = Holds-append _ _ _ _ _ _ _ listing.holds wrote;
         failures = same ∙ listing.failures;
       }
 
-      -- a write failed where lines of the first halves of a run were to be held
-      pub stops_at_run : OnlyAdds items → {then : WriterState} (some rest line : List ℕ) (more : List (ℕ × A))
-          → replicate run.n run.us ≡ some ++ rest → items (listing.halves ++ some) ≡ items listing.halves ++ more
+      -- a write failed where lines of the first halves of these were to be held
+      pub stops_at_halves : OnlyAdds items → {then : WriterState} (some rest line : List ℕ) (more : List (ℕ × A))
+          → given ≡ some ++ rest → items (listing.halves ++ some) ≡ items listing.halves ++ more
           → AreLines IsLineOf more line → AppendsFront after then (held ++ line) → HasRisen after.failures then.failures
           → WritesLinesOfCapture IsLineOf items start before (Err Write) new then
-      stops_at_run grows some rest line more cut adds here wrote risen =
+      stops_at_halves grows some rest line more cut adds here wrote risen =
           let whole : GaveHalves start ((listing.halves ++ some) ++ rest) new =
           subst (λ (halves : List ℕ). GaveHalves start halves new)
           (ap (λ (l : List ℕ). listing.halves ++ l) cut ∙ sym (append_assoc listing.halves some rest)) all in
@@ -175,6 +173,29 @@ module _ {A : Type 0} {IsLineOf : ℕ → A → List ℕ → Type 0} {items : Li
           whole.items.fault refl
           listing.failures (lists_more some line more adds here) (Holds-fails_with _ _ _ _ _ _ listing.holds wrote)
           risen
+
+    module _ {now new : InputState} {held : List ℕ} {after : WriterState} (run : Run)
+        (listing : Listing IsLineOf items Follows start now held before after)
+        (gave : GaveHalves now (replicate run.n run.us) new) where
+      pub counted : {most left : ℕ} → most ≡ start.halves → left ≡ new.halves
+          → most - left ≡ length listing.halves + run.n
+      counted first behind =
+          counted_halves (replicate run.n run.us) listing gave first behind
+          ∙ ap (λ n. length listing.halves + n) (length-replicate run.n run.us)
+
+      -- one more run adds the lines of its items
+      pub Listing-run : {Next : List ℕ → Type 0} (line : List ℕ) {left : List ℕ} {then : WriterState}
+          (more : List (ℕ × A)) → Next (listing.halves ++ replicate run.n run.us)
+          → items (listing.halves ++ replicate run.n run.us) ≡ items listing.halves ++ more
+          → AreLines IsLineOf more line → Holds after then (held ++ line) left → then.failures ≡ after.failures
+          → Listing IsLineOf items Next start new left before then
+      Listing-run = Listing-halves (replicate run.n run.us) listing gave
+
+      pub stops_at_run : OnlyAdds items → {then : WriterState} (some rest line : List ℕ) (more : List (ℕ × A))
+          → replicate run.n run.us ≡ some ++ rest → items (listing.halves ++ some) ≡ items listing.halves ++ more
+          → AreLines IsLineOf more line → AppendsFront after then (held ++ line) → HasRisen after.failures then.failures
+          → WritesLinesOfCapture IsLineOf items start before (Err Write) new then
+      stops_at_run = stops_at_halves (replicate run.n run.us) listing gave
 
     module _ {now : InputState} {held : List ℕ} {after then : WriterState}
         (listing : Listing IsLineOf items Follows start now held before after) where

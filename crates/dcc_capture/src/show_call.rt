@@ -1,8 +1,8 @@
 //! The operation `show`, which lists a capture.
-ghost use Rattle.std.specs.Prelude.{◌≡◌, ◌<◌, ◌+◌, ◌++◌, ℕ, List, None, IfSome};
-ghost use Rattle.dcc_wire.specs.Framing.{report_at};
+ghost use Rattle.std.specs.Prelude.{◌≡◌, ◌<◌, ◌+◌, ◌^◌, ◌++◌, ℕ, List, None, IfSome, OnOk, length};
+ghost use Rattle.dcc_wire.specs.Framing.{StandsFor, report_at};
 ghost use Rattle.dcc_io.specs.Held.{HoldsOrFails};
-ghost use Rattle.dcc_capture.specs.HeldRuns.{HoldsLines};
+ghost use Rattle.dcc_capture.specs.HeldRuns.{HoldsLines, HoldsListing};
 ghost use Rattle.dcc_io.specs.Faults.{as_tool_fault};
 ghost use Rattle.dcc_io.specs.InputState.{ReadHasFailure};
 ghost use Rattle.dcc_capture.specs.Listing.{IsLine};
@@ -10,9 +10,12 @@ ghost use Rattle.dcc_capture.specs.Shown.{Shows};
 
 use crate::listed_runs::{next_listed_run, write_rest};
 use crate::listing::outcome_line;
-use dcc_io::inputs::take_buffered_half;
+use dcc_io::inputs::take_buffered_halves;
 use dcc_io::{Failed, HeldLines, Input, Sink, Source, ToolFault};
 use dcc_wire::{Framer, Seen};
+
+/// The number of half-bits that are read before the framer takes them.
+const AT_ONCE: usize = 256;
 
 /// Writes a line for each outcome of a capture. The line begins with the number of the last
 /// half-bit of the outcome, counted from 1.
@@ -59,24 +62,47 @@ fn list<R: Source, W: Sink>(
     let most = input.halves_left();
     let mut framer = Framer::new();
     let mut held = HeldLines::new();
+    let mut halves = [0; AT_ONCE];
     'runs: loop {
-        match take_buffered_half(input) {
-            Some(us) => {
-                let seen = framer.push(us);
-                let half = most - input.halves_left();
-                hold_seen(&mut held, half, &seen, words, writer)?;
+        let count = take_buffered_halves(input, &mut halves);
+        if count > 0 {
+            let before = most - input.halves_left() - count as u32;
+            hold_halves(&mut framer, &halves[..count], before, &mut held, words, writer)?;
+            continue;
+        }
+        match next_listed_run(input, &mut held, writer)? {
+            Ok(Some(run)) => {
+                let shown = framer.push_run(run.us, run.n);
+                let half = most - input.halves_left() - run.n + shown.at;
+                hold_seen(&mut held, half, &shown.seen, words, writer)?;
             }
-            None => match next_listed_run(input, &mut held, writer)? {
-                Ok(Some(run)) => {
-                    let shown = framer.push_run(run.us, run.n);
-                    let half = most - input.halves_left() - run.n + shown.at;
-                    hold_seen(&mut held, half, &shown.seen, words, writer)?;
-                }
-                Ok(None) => return write_rest(&mut held, writer, Ok(())),
-                Err(fault) => return write_rest(&mut held, writer, Err(ToolFault::from(fault))),
-            },
+            Ok(None) => return write_rest(&mut held, writer, Ok(())),
+            Err(fault) => return write_rest(&mut held, writer, Err(ToolFault::from(fault))),
         }
     }
+}
+
+/// Pushes half-bits to the framer, and appends the lines of their outcomes to the buffer. The number
+/// `before` counts the half-bits of the capture before these half-bits.
+fn hold_halves<W: Sink>(
+    framer: &mut Framer,
+    halves: &[u16],
+    before: u32,
+    held: &mut HeldLines,
+    words: bool,
+    writer: &mut W,
+) -> Result<(), Failed>
+    requires { before + length halves.now < 2 ^ 32 }
+    ensures stands { OnOk result ((durations : List ℕ) → StandsFor framer.old durations
+        → StandsFor framer.new (durations ++ halves.now)) }
+    ensures holds { (durations : List ℕ) → StandsFor framer.old durations → before ≡ length durations
+        → HoldsListing words durations halves.now (W.state writer.old) held.old result held.new (W.state writer.new) }
+{
+    for (i, us) in halves.iter().enumerate() {
+        let seen = framer.push(*us);
+        hold_seen(held, before + i as u32 + 1, &seen, words, writer)?;
+    }
+    Ok(())
 }
 
 /// Appends a line to the buffer if an outcome ends with the half-bit with the number `half`.

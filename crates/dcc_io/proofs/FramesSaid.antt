@@ -1,5 +1,5 @@
 -- The packet lines of a text say frames.
-use Rattle.std.proofs.Common.{◌≡◌, ℕ, ◌-◌, ◌||◌, Bool, true, false, not, List, [], ◌∷◌, ◌++◌, length, take, Option}
+use Rattle.std.proofs.Common.{◌≡◌, ℕ, ◌-◌, Bool, true, false, not, List, [], ◌∷◌, length, take, Option}
 use Rattle.std.proofs.Common.{Some, None}
 use Rattle.std.proofs.Common.{Result, Ok, Err, if◌then◌else◌, refl, codes, nat_le, subst, zero, suc}
 use Rattle.std.specs.Prelude.{replicate}
@@ -19,7 +19,7 @@ use Rattle.dcc_io.specs.FramesSaid.{PacketLinesSayFrames, AsksForFrame, StationL
 use Rattle.dcc_io.specs.InputState.{InputState}
 use Rattle.dcc_io.specs.Items.{Items, only_fault}
 use Rattle.dcc_io.specs.NumberedLines.{NumberedLine, is_good, lines_from}
-use Rattle.dcc_io.specs.PacketLines.{Saying, behind_line, behind_words, is_skipped, items_in, items_of, open_line}
+use Rattle.dcc_io.specs.PacketLines.{Saying, behind_line, behind_words, is_skipped, items_in, items_of}
 use Rattle.dcc_io.specs.PacketLines.{packet_words}
 use Rattle.dcc_io.specs.StationLines.{Asked, Command, Next, command_of, packets_of, send_field, station_requests}
 use Rattle.dcc_io.specs.StationLines.{station_words}

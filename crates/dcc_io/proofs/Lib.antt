@@ -8,6 +8,7 @@ pub mod WrittenLemmas
 pub mod HeldLemmas
 pub mod HandLemmas
 pub mod FrontLemmas
+pub mod ShortLemmas
 pub mod LineFeedLemmas
 pub mod LineLemmas
 pub mod ItemsLemmas

@@ -37,3 +37,9 @@ pub record TakesRun (old : InputState) (run : Run) (new : InputState) : Type 0 w
   pub enough : run.n ≤ mid.halves
   pub counted : new ≡ record mid { halves = mid.halves - run.n }
   pub fewer : new.bytes < old.bytes
+
+-- the next words are the durations `halves`. The words were removed one after the other, each as
+-- `TakesHalf` says.
+abbrev pub TakesHalves : InputState → List ℕ → InputState → Type 0
+TakesHalves old [] new = new ≡ old
+TakesHalves old (us ∷ halves) new = (mid : InputState) × TakesHalf old us mid × TakesHalves mid halves new

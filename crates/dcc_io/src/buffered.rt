@@ -1,5 +1,5 @@
 //! A reader with a buffer, which returns single bytes.
-ghost use Rattle.std.specs.Prelude.{◌≡◌, ◌≤◌, ◌↔◌, ℕ, IsTrue, List, [], length, take, drop, slice_range};
+ghost use Rattle.std.specs.Prelude.{◌≡◌, ◌≤◌, ◌↔◌, ℕ, IsTrue, None, List, [], length, take, drop, slice_range};
 ghost use Rattle.std.specs.Io.KnownBytes.{prepend_known, Consumes};
 ghost use Rattle.dcc_io.specs.ReaderState.{ReaderState, StartsWithBytes, AnswersNext, Fills, TakesFirst};
 
@@ -69,6 +69,7 @@ impl<R: Source> Buffered<R> {
         requires { count ≤ length self.old.ahead }
         ensures ahead { self.new.ahead ≡ drop count self.old.ahead }
         ensures text { Consumes self.old.text self.new.text (take count self.old.ahead) }
+        ensures unknown { self.old.text ≡ None → self.new.text ≡ None }
         ensures failures { self.new.failures ≡ self.old.failures }
         ensures reads { self.new.reads ≡ self.old.reads }
     {

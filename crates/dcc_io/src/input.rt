@@ -9,12 +9,13 @@ ghost use Rattle.dcc_io.specs.PassedWords.{AnswersWord, EndsWord, Passed};
 ghost use Rattle.dcc_io.specs.KeptAnswers.{AnswersKept};
 ghost use Rattle.dcc_io.specs.NextLine.{AnswersLine, ReadsLine};
 ghost use Rattle.dcc_io.specs.Inner.FrontLine.{BeginsWithLine, IsFrontLine, SkipsLine};
-ghost use Rattle.dcc_io.specs.Counted.{CountsRun, TakesHalf, TakesRun};
+ghost use Rattle.dcc_io.specs.Counted.{CountsRun, TakesHalf, TakesHalves, TakesRun};
 ghost use Rattle.dcc_io.specs.InputState.{InputState, closed_text, closing, AnswersByte, ReadHasFailure, fresh};
 
 use crate::buffered::Buffered;
 use crate::fault::{KeptFault, ToolFault};
 use crate::front_run::front_run;
+use crate::short_words::short_words;
 use crate::stream::Source;
 use crate::text_line::{TextLine, front_line, skipped_line_len};
 use crate::word::{
@@ -345,6 +346,36 @@ impl<R: Source> Input<R> {
         self.take_front(front, true)
     }
 
+    /// Removes the short words at the beginning of the buffer, writes their durations to `halves`, and
+    /// returns their number. The function removes words until `halves` is full or another word
+    /// follows. Returns 0 near the limits of half-bits and bytes.
+    #[inline(always)]
+    fn take_short_halves(&mut self, halves: &mut [u16]) -> usize
+        requires fault { self.old.fault ≡ None }
+        requires no_comment { self.old.place.in_comment ≡ false }
+        ensures taken { TakesHalves self.old (take result halves.new) self.new }
+        ensures count { result ≤ length halves.new }
+        ensures same_len { length halves.new ≡ length halves.old }
+    {
+        let ahead = self.source.ahead();
+        if ahead.is_empty() || self.bytes_left as usize <= ahead.len() {
+            return 0;
+        }
+        if (self.halves_left as usize) < halves.len() {
+            return 0;
+        }
+        let words = short_words(ahead, self.line, u64::from(self.lines), halves);
+        if words.count == 0 {
+            return 0;
+        }
+        self.source.skip(words.len);
+        self.bytes_left -= words.len as u32;
+        self.halves_left -= words.count as u32;
+        self.line = words.line;
+        self.lines = words.last as u32;
+        words.count
+    }
+
     /// Removes the word at the beginning of the buffer and returns its duration. Returns `None` if
     /// the limit of bytes is exceeded. The line feed of a CR LF is removed only if `with_line_feed`
     /// is true.
@@ -532,6 +563,33 @@ pub fn take_buffered_half<R: Source>(input: &mut Input<R>) -> Option<u16>
         Some(front) => input.take_front_and_cr_lf(front),
         None if begins_with_run(input.source.ahead()) => None,
         None => input.take_any_buffered_half(),
+    }
+}
+
+/// Removes the next words while they are durations, writes these durations to the beginning of
+/// `halves`, and returns their number. The buffer contains these words completely, so the function
+/// reads nothing. Returns 0 if the buffer does not begin with a complete word that is a duration.
+/// The half-bits count against the limit. Most half-bits of a capture are read by this function.
+#[inline(always)]
+pub fn take_buffered_halves<R: Source>(input: &mut Input<R>, halves: &mut [u16]) -> usize
+    requires { input.old.fault ≡ None }
+    ensures taken { TakesHalves input.old (take result halves.new) input.new }
+    ensures count { result ≤ length halves.new }
+    ensures same_len { length halves.new ≡ length halves.old }
+{
+    if input.in_comment || input.halves_left == 0 || begins_with_run(input.source.ahead()) {
+        return 0;
+    }
+    let count = input.take_short_halves(halves);
+    if count > 0 || halves.is_empty() {
+        return count;
+    }
+    match input.take_any_buffered_half() {
+        Some(us) => {
+            halves[0] = us;
+            1
+        }
+        None => 0,
     }
 }
 

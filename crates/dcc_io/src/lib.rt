@@ -12,6 +12,7 @@ pub mod inputs;
 pub mod laws;
 mod line_end;
 mod said_line;
+mod short_words;
 mod station_line;
 mod stream;
 mod text;

@@ -2,7 +2,7 @@
 ghost use Rattle.std.specs.Prelude.{◌≡◌, ◌↔◌, ◌<◌, ◌≤◌, min, ℕ, List, [], ◌∷◌, ◌++◌, not, true, ◌==◌, ◌&&◌, IfSome};
 ghost use Rattle.std.specs.Prelude.{IsTrue, false, ◌+◌, ◌||◌, length, nat_lt, slice_index, take, Some};
 ghost use Rattle.dcc_io.specs.Words.{duration_of, is_gap, is_mark, is_some_byte, run_of};
-ghost use Rattle.dcc_io.specs.Inner.FrontWords.{EndNoLine, HasLineFeedAt, IsFrontWord, IsWholeWord, EndedWord};
+ghost use Rattle.dcc_io.specs.Inner.FrontWords.{BeginsWithTwoDigits, EndNoLine, HasLineFeedAt, IsFrontWord, IsShortWord, IsWholeWord, EndedWord};
 
 use crate::digits::Digits;
 use memchr::memchr;
@@ -127,7 +127,7 @@ pub fn word_of_two(bytes: &[u8]) -> Option<FrontWord>
         return None;
     }
     Some(FrontWord {
-        us: u16::from(us),
+        us,
         len: 2,
         ends_line: bytes[2] == b'\n',
     })
@@ -161,7 +161,7 @@ pub fn short_word_before_cr_lf(bytes: &[u8]) -> Option<FrontWord>
     let us = two_digits(bytes)?;
     if is_cr(bytes[2]) && bytes[3] == b'\n' {
         return Some(FrontWord {
-            us: u16::from(us),
+            us,
             len: 2,
             ends_line: false,
         });
@@ -177,17 +177,121 @@ pub fn short_word_before_cr_lf(bytes: &[u8]) -> Option<FrontWord>
     None
 }
 
+/// A word of two or three digits at the beginning of a list of bytes, with the gap after the word.
+#[derive(Clone, Copy, Debug)]
+pub struct ShortWord {
+    /// The duration that the word means, in microseconds.
+    pub us: u16,
+
+    /// The number of bytes of the word and of the gap: a space, a line feed or CR LF.
+    pub len: usize,
+
+    /// True if the gap has a line feed.
+    pub ends_line: bool,
+}
+
+/// Returns the number in the first two bytes, if `bytes` has at least five bytes and these two are
+/// digits.
+#[inline(always)]
+pub fn first_two_digits(bytes: &[u8]) -> Option<u16>
+    ensures { IfSome result (λ us. BeginsWithTwoDigits bytes.now us) }
+{
+    if bytes.len() < 5 {
+        return None;
+    }
+    two_digits(bytes)
+}
+
+/// Returns the word of two or three digits at the beginning of `bytes`, if a space follows it. The
+/// parameter `us` is the number in the first two digits.
+#[inline(always)]
+pub fn word_before_space(bytes: &[u8], us: u16) -> Option<ShortWord>
+    requires { BeginsWithTwoDigits bytes.now us }
+    ensures word { IfSome result (λ word. IsShortWord bytes.now word) }
+    ensures ends_line { IfSome result (λ word. word.ends_line ≡ false) }
+{
+    let third = bytes[2];
+    if third == b' ' {
+        return with_space(bytes, us, 2);
+    }
+    if !is_digit(third) {
+        return None;
+    }
+    with_space(bytes, us * 10 + u16::from(third - b'0'), 3)
+}
+
+/// Returns the word of two or three digits at the beginning of `bytes`, if a line feed or CR LF
+/// follows it. The parameter `us` is the number in the first two digits.
+#[inline(always)]
+pub fn word_before_line_end(bytes: &[u8], us: u16) -> Option<ShortWord>
+    requires { BeginsWithTwoDigits bytes.now us }
+    ensures word { IfSome result (λ word. IsShortWord bytes.now word) }
+    ensures ends_line { IfSome result (λ word. word.ends_line ≡ true) }
+{
+    if is_digit(bytes[2]) {
+        return with_line_end(bytes, us * 10 + u16::from(bytes[2] - b'0'), 3);
+    }
+    with_line_end(bytes, us, 2)
+}
+
+/// Returns the word of `len` digits at the beginning of `bytes`, which means the duration `us`, if a
+/// space follows it.
+#[inline(always)]
+#[tactic(auto, unfolding(crate::specs::Words::is_gap))]
+fn with_space(bytes: &[u8], us: u16, len: usize) -> Option<ShortWord>
+    requires inside { len + 1 < length bytes.now }
+    requires spells { duration_of (take len bytes.now) ≡ Some us }
+    ensures word { IfSome result (λ word. IsShortWord bytes.now word) }
+    ensures ends_line { IfSome result (λ word. word.ends_line ≡ false) }
+{
+    if bytes[len] != b' ' {
+        return None;
+    }
+    Some(ShortWord {
+        us,
+        len: len + 1,
+        ends_line: false,
+    })
+}
+
+/// Returns the word of `len` digits at the beginning of `bytes`, which means the duration `us`, if a
+/// line feed or CR LF follows it.
+#[inline(always)]
+#[tactic(auto, unfolding(crate::specs::Words::is_gap))]
+fn with_line_end(bytes: &[u8], us: u16, len: usize) -> Option<ShortWord>
+    requires inside { len + 1 < length bytes.now }
+    requires spells { duration_of (take len bytes.now) ≡ Some us }
+    ensures word { IfSome result (λ word. IsShortWord bytes.now word) }
+    ensures ends_line { IfSome result (λ word. word.ends_line ≡ true) }
+{
+    if bytes[len] == b'\n' {
+        return Some(ShortWord {
+            us,
+            len: len + 1,
+            ends_line: true,
+        });
+    }
+    if !is_cr(bytes[len]) || bytes[len + 1] != b'\n' {
+        return None;
+    }
+    Some(ShortWord {
+        us,
+        len: len + 2,
+        ends_line: true,
+    })
+}
+
 /// Returns the number in the first two bytes, if `bytes` has at least four bytes and these two are
 /// digits.
 #[inline(always)]
-fn two_digits(bytes: &[u8]) -> Option<u8>
+fn two_digits(bytes: &[u8]) -> Option<u16>
     ensures number { IfSome result (λ us. (4 ≤ length bytes.now) × (duration_of (take 2 bytes.now) ≡ Some us)) }
     ensures small { IfSome result (λ us. us < 100) }
 {
     if bytes.len() < 4 || !is_digit(bytes[0]) || !is_digit(bytes[1]) {
         return None;
     }
-    Some((bytes[0] - b'0') * 10 + (bytes[1] - b'0'))
+    Some(u16::from(bytes[0] - b'0') * 10 + u16::from(bytes[1] - b'0'))
 }
 
 /// Returns the number in the first three bytes, if `bytes` has at least four bytes and these three
@@ -200,7 +304,7 @@ fn three_digits(bytes: &[u8]) -> Option<u16>
     if !is_digit(bytes[2]) {
         return None;
     }
-    Some(u16::from(tens) * 10 + u16::from(bytes[2] - b'0'))
+    Some(tens * 10 + u16::from(bytes[2] - b'0'))
 }
 
 /// Returns true if a byte is a decimal digit.

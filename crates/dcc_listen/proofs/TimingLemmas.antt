@@ -33,23 +33,23 @@ pub measuring_none : (start : InputState) (fact : List ℕ → Type 0) → start
 measuring_none start fact fault measures =
     record { halves = []; gave = GaveHalves-none start fault; measures = measures }
 
--- there is room for one more run
-pub measuring_room : (start now new : InputState) (fact : List ℕ → Type 0) (counted : ℕ) (run : Run) (most : ℕ)
+-- there is room for more half-bits
+pub measuring_room : (start now new : InputState) (fact : List ℕ → Type 0) (counted : ℕ) (given : List ℕ) (most : ℕ)
     → most ≡ start.halves → most < 2 ^ 32 → ((halves : List ℕ) → fact halves → counted ≤ length halves)
-    → Measuring start now fact → GaveHalves now (replicate run.n run.us) new
-    → counted + run.n < 2 ^ 32
-measuring_room start now new fact counted run most is small few so_far gave =
+    → Measuring start now fact → GaveHalves now given new
+    → counted + length given < 2 ^ 32
+measuring_room start now new fact counted given most is small few so_far gave =
     let taken = so_far.gave.left in
-    let more = rw (length-replicate run.n run.us) at gave.left in
+    let more = gave.left in
     omega (arith, is, small, taken, more, few so_far.halves so_far.measures)
 
-pub measuring_more : (start now new : InputState) (fact next : List ℕ → Type 0) (run : Run)
-    → GaveHalves now (replicate run.n run.us) new
-    → ((halves : List ℕ) → fact halves → next (halves ++ replicate run.n run.us))
+pub measuring_more : (start now new : InputState) (fact next : List ℕ → Type 0) (given : List ℕ)
+    → GaveHalves now given new
+    → ((halves : List ℕ) → fact halves → next (halves ++ given))
     → Measuring start now fact → Measuring start new next
-measuring_more start now new fact next run gave takes so_far = record {
-  halves = so_far.halves ++ replicate run.n run.us;
-  gave = GaveHalves-append start now new so_far.halves (replicate run.n run.us) so_far.gave gave;
+measuring_more start now new fact next given gave takes so_far = record {
+  halves = so_far.halves ++ given;
+  gave = GaveHalves-append start now new so_far.halves given so_far.gave gave;
   measures = takes so_far.halves so_far.measures;
 }
 

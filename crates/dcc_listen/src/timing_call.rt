@@ -6,9 +6,12 @@ ghost use Rattle.dcc_listen.specs.Timed.{MeasuresCapture, Times};
 
 use crate::timing_text::timing_text;
 use dcc_capture::read_run;
-use dcc_io::inputs::take_buffered_half;
+use dcc_io::inputs::take_buffered_halves;
 use dcc_io::{Input, KeptFault, Sink, Source, ToolFault, write_all};
 use dcc_lost::TrackFigures;
+
+/// The number of half-bits that are read before the statistics take them.
+const AT_ONCE: usize = 256;
 
 /// Writes the statistics of a capture. Each line has a name, and then a number, two limits or the
 /// word `none`. The limits are those of NMRA S-9.1 for a station and for a decoder.
@@ -47,13 +50,16 @@ pub fn measure<R: Source>(input: &mut Input<R>) -> Result<TrackFigures, KeptFaul
     // the limit allows fewer than 2^32 half-bits
     let most = input.halves_left();
     let mut figures = TrackFigures::new();
+    let mut halves = [0; AT_ONCE];
     'runs: loop {
-        match take_buffered_half(input) {
-            Some(us) => figures.push(us),
-            None => match read_run(input)? {
-                Some(run) => figures.push_run(run.us, run.n),
-                None => return Ok(figures),
-            },
+        let count = take_buffered_halves(input, &mut halves);
+        if count > 0 {
+            figures.push_all(&halves[..count]);
+            continue;
+        }
+        match read_run(input)? {
+            Some(run) => figures.push_run(run.us, run.n),
+            None => return Ok(figures),
         }
     }
 }

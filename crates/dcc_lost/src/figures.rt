@@ -162,6 +162,23 @@ impl TrackFigures {
         }
     }
 
+    /// Appends the half-bits `halves` to the list. The longer list must have fewer than 2^32
+    /// half-bits.
+    pub fn push_all(&mut self, halves: &[u16])
+        requires { self.old.timings.halves + length halves.now < 2 ^ 32 }
+        // Some list has the old statistics.
+        ensures history { ∥ ((durations : List ℕ) × MeasuresTrack self.old durations) ∥₁ }
+        // If a list has the old statistics, the list with these half-bits at its end has the new
+        // statistics.
+        ensures measures { (durations : List ℕ) → MeasuresTrack self.old durations
+            → MeasuresTrack self.new (durations ++ halves.now) }
+        ensures count { self.new.timings.halves ≡ self.old.timings.halves + length halves.now }
+    {
+        for (i, us) in halves.iter().enumerate() {
+            self.push(*us);
+        }
+    }
+
     /// Appends a half-bit of `us` microseconds to the list.
     #[inline(never)]
     fn push_apart(&mut self, us: u16)

@@ -59,6 +59,13 @@ least_next old new number [] tally first next = first tally.count
 least_next old new number (other ∷ numbers) tally first next =
     next (λ none. omega (arith, none, tally.count)) ∙ ap (λ n. min n number) tally.lowest
 
+-- the only number that the range of an empty list covers
+pub first_within : (tally : Tally) (number : ℕ) (numbers : List ℕ) → IsTally tally numbers → tally.count ≡ 0
+    → tally.least ≤ number → number ≤ tally.most → tally.least ≡ number
+unfolding least most
+first_within tally number [] is none low high = omega (arith, is.lowest, is.highest, low, high)
+first_within tally number (other ∷ numbers) is none low high = absurd (omega (arith, none, is.count))
+
 most_next : (old new : Tally) (number : ℕ) (numbers : List ℕ) → IsTally old numbers
     → new.most ≡ max old.most number → new.most ≡ greater (most numbers) number
 unfolding most

@@ -25,7 +25,7 @@ pub struct Mean {
 }
 
 impl Tally {
-    ghost use Rattle.std.specs.Prelude.{◌≡◌, ◌<◌, ◌≤◌, ◌+◌, ◌*◌, ◌^◌, ℕ, List, [], ◌++◌, length, replicate, IfSome};
+    ghost use Rattle.std.specs.Prelude.{◌≡◌, ◌≢◌, ◌<◌, ◌≤◌, ◌+◌, ◌*◌, ◌^◌, ℕ, List, [], ◌++◌, length, replicate, min, max, IfSome};
     ghost use Rattle.dcc_timing.specs.Numbers.{least, most};
     ghost use Rattle.dcc_timing.specs.Tallies.{IsTally, mean};
 
@@ -52,10 +52,39 @@ impl Tally {
             → IsTally self.new (numbers ++ replicate n number) }
         ensures count { self.new.count ≡ self.old.count + n }
     {
-        self.least = lesser(self.count, self.least, number);
-        self.most = self.most.max(number);
+        self.cover(number);
         self.count += u64::from(n);
         self.sum += u64::from(n) * number;
+    }
+
+    /// Extends the range from the least to the greatest number by `number`. Most numbers are in the
+    /// range already.
+    #[inline(always)]
+    fn cover(&mut self, number: u64)
+        ensures first { (numbers : List ℕ) → IsTally self.old numbers → self.old.count ≡ 0
+            → self.new.least ≡ number }
+        ensures next { self.old.count ≢ 0 → self.new.least ≡ min self.old.least number }
+        ensures most { self.new.most ≡ max self.old.most number }
+        ensures count { self.new.count ≡ self.old.count }
+        ensures sum { self.new.sum ≡ self.old.sum }
+    {
+        if self.least <= number && number <= self.most {
+            return;
+        }
+        self.extend(number);
+    }
+
+    /// Extends the range from the least to the greatest number by `number`.
+    #[inline(never)]
+    fn extend(&mut self, number: u64)
+        ensures first { self.old.count ≡ 0 → self.new.least ≡ number }
+        ensures next { self.old.count ≢ 0 → self.new.least ≡ min self.old.least number }
+        ensures most { self.new.most ≡ max self.old.most number }
+        ensures count { self.new.count ≡ self.old.count }
+        ensures sum { self.new.sum ≡ self.old.sum }
+    {
+        self.least = lesser(self.count, self.least, number);
+        self.most = self.most.max(number);
     }
 
     /// Returns how many numbers the list has.

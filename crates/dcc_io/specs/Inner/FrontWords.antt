@@ -1,8 +1,9 @@
 -- A word at the beginning of a list of bytes.
-use Rattle.std.specs.Prelude.{◌≡◌, ℕ, Bool, ◌<◌, ◌≤◌, min, List, true, not, Some, ◌==◌, ◌||◌, length, take}
+use Rattle.std.specs.Prelude.{◌≡◌, ℕ, ◌+◌, Bool, ◌<◌, ◌≤◌, min, List, true, false, not, Some, ◌==◌, ◌||◌, ◌⊎◌, length, take}
 use Rattle.std.specs.Prelude.{slice_index_or}
 use Rattle.std.specs.List.{list_all}
 use Rattle.dcc_io.specs.declared.word.FrontWord.{FrontWord}
+use Rattle.dcc_io.specs.declared.word.ShortWord.{ShortWord}
 use Rattle.dcc_io.specs.declared.word.WholeWord.{WholeWord}
 use Rattle.dcc_io.specs.SpelledWords.{Spells}
 use Rattle.dcc_io.specs.Words.{is_gap, duration_of}
@@ -17,6 +18,24 @@ pub record IsFrontWord (bytes : List ℕ) (front : FrontWord) : Type 0 where
   pub spells : duration_of (take front.len bytes) ≡ Some front.us
   pub gap : is_gap (slice_index_or bytes front.len 0) ≡ true
   pub ends_line : front.ends_line ≡ (slice_index_or bytes front.len 0 == 10)
+
+-- `bytes` has five bytes or more, and begins with two digits of the number `us`
+pub record BeginsWithTwoDigits (bytes : List ℕ) (us : ℕ) : Type 0 where
+  pub inside : 5 ≤ length bytes
+  pub spells : duration_of (take 2 bytes) ≡ Some us
+  pub small : us < 100
+
+-- `bytes` begin with a word that is the duration `word.us`, and with a gap after this word. The gap
+-- is one byte, or a carriage return and a line feed. `word.len` is the number of bytes of the word
+-- and of the gap.
+pub record IsShortWord (bytes : List ℕ) (word : ShortWord) : Type 0 where
+  pub len : ℕ
+  pub inside : len + 1 < length bytes
+  pub spells : duration_of (take len bytes) ≡ Some word.us
+  pub is_gap : is_gap (slice_index_or bytes len 0) ≡ true
+  pub gap : ((word.len ≡ len + 1) × (word.ends_line ≡ (slice_index_or bytes len 0 == 10)))
+      ⊎ ((word.len ≡ len + 2) × (word.ends_line ≡ true) × ((slice_index_or bytes len 0 == 10) ≡ false)
+      × (slice_index_or bytes (len + 1) 0 ≡ 10))
 
 -- `front` is a word of `len` digits with the value `number`. The byte `behind` follows the word and
 -- is a gap.

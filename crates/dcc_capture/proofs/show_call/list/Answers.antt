@@ -1,55 +1,68 @@
-use Rattle.std.proofs.Common.{length, ◌+◌, ◌-◌, [], ◌∷◌, refl, sym, replicate, arith}
+use Rattle.std.proofs.Common.{length, ◌+◌, ◌-◌, [], sym, replicate, arith}
 use Rattle.std.proofs.lemmas.List.{append-nil}
 use Rattle.std.proofs.lemmas.Result.{err_from_is_err_and}
-use Rattle.dcc_io.specs.declared.word.Run.{Run}
-use Rattle.dcc_capture.proofs.HalfLemmas.{half_taken}
+use Rattle.std.proofs.lemmas.List.{length-take-le}
+use Rattle.dcc_capture.proofs.HalfLemmas.{fewer_bytes, none_taken}
+use Rattle.dcc_capture.proofs.HoldLemmas.{Listing-held, count_before, next_halves}
 use Rattle.dcc_wire.proofs.SeenLemmas.{seen-grows, seen-none}
-use Rattle.dcc_capture.proofs.ShowLemmas.{at_some_half, answers_one}
+use Rattle.dcc_capture.proofs.ShowLemmas.{at_some_half}
 use Rattle.dcc_capture.proofs.LinesLemmas.{Listing-start, Listing-wrote, Listing-run, counted, stops_before_read}
-use Rattle.dcc_capture.proofs.LinesLemmas.{stops_at_run, stops_at_fault, stops_at_end}
+use Rattle.dcc_capture.proofs.LinesLemmas.{counted_halves, stops_at_halves, stops_at_run, stops_at_fault, stops_at_end}
 use Rattle.dcc_capture.proofs.show_call.list.Goals as goal
 
 pub runs-init : goal.runs-init
 runs-init g c = rw c.new-held.ensures (Listing-start seen-none c.requires c.new-framer.ensures)
 
--- a half at hand
+-- half-bits at hand
 
-pub hold_seen-requires : goal.hold_seen-requires
-hold_seen-requires g c =
-    let one : Run = record { us = c.in-Some.us; n = 1 } in
-    let half = counted one c.runs.invariant (half_taken c.in-Some.ensures.some).0 c.halves_left-most.ensures
-    c.halves_left.ensures in
-    omega (arith, half)
+pub overflow_sub-before : goal.overflow_sub-before
+overflow_sub-before g c =
+    let gave = next_halves c.runs.invariant c.take_buffered_halves-count.ensures.taken in
+    omega (arith, gave.left, c.runs.invariant.gave.left, c.halves_left.ensures, c.halves_left-most.ensures)
 
-pub runs-preserved-in-Continue-1 : goal.runs-preserved-in-Continue-1
-runs-preserved-in-Continue-1 g c =
-    let one : Run = record { us = c.in-Some.us; n = 1 } in
-    let showing = c.runs.invariant in
-    let gave = (half_taken c.in-Some.ensures.some).0 in
-    let half = counted one showing gave c.halves_left-most.ensures c.halves_left.ensures in
-    let wrote = c.in_ok-hold_seen-in-Some.ensures (length showing.halves + 1 - 1) (omega (arith, half)) in
-    Listing-run one showing gave _ _ (c.push-seen.ensures.stands showing.halves showing.stands)
-    (answers_one showing.halves one.us c.push-seen.result (c.push-seen.ensures.sees showing.halves showing.stands))
-    wrote.1 wrote.2.0 wrote.2.1
+pub overflow_sub-before-then-count-gt0 : goal.overflow_sub-before-then-count-gt0
+overflow_sub-before-then-count-gt0 g c =
+    let taken = c.take_buffered_halves-count.ensures in
+    let gave = next_halves c.runs.invariant taken.taken in
+    let len = length-take-le c.take_buffered_halves-count.result c.take_buffered_halves-count.new.halves taken.count in
+    omega (arith, gave.left, c.runs.invariant.gave.left, c.halves_left.ensures, c.halves_left-most.ensures, len)
 
-pub returns-in_err-hold_seen-in-Some : goal.returns-in_err-hold_seen-in-Some
-returns-in_err-hold_seen-in-Some g c =
+pub runs-smaller-then-count-gt0 : goal.runs-smaller-then-count-gt0
+runs-smaller-then-count-gt0 g c =
+    let taken = c.take_buffered_halves-count.ensures in
+    let len = length-take-le c.take_buffered_halves-count.result c.take_buffered_halves-count.new.halves taken.count in
+    let some = c.if-count-gt0.true in
+    fewer_bytes _ _ _ c.runs.invariant.gave.items.fault taken.taken (omega arith)
+
+pub runs-preserved-then-count-gt0 : goal.runs-preserved-then-count-gt0
+runs-preserved-then-count-gt0 g c =
+    let listing = c.runs.invariant in
+    let taken = c.take_buffered_halves-count.ensures in
+    let gave = next_halves listing taken.taken in
+    let before = count_before _ _ taken.count
+    (counted_halves _ listing gave c.halves_left-most.ensures c.halves_left.ensures) in
+    let held = c.in_ok-hold_halves.ensures.holds listing.halves listing.stands before in
+    Listing-held listing gave (c.in_ok-hold_halves.ensures.stands listing.halves listing.stands) held
+
+pub returns-in_err-hold_halves : goal.returns-in_err-hold_halves
+returns-in_err-hold_halves g c =
     let p = err_from_is_err_and c.from_residual.result c.from_residual.ensures.1 in
-    let one : Run = record { us = c.in-Some.us; n = 1 } in
-    let showing = c.runs.invariant in
-    let gave = (half_taken c.in-Some.ensures.some).0 in
-    let half = counted one showing gave c.halves_left-most.ensures c.halves_left.ensures in
-    let wrote = c.in_err-hold_seen-in-Some.ensures (length showing.halves + 1 - 1) (omega (arith, half)) in
-    rw (p.1, p.2) (stops_at_run one showing gave seen-grows (one.us ∷ []) [] _ _ refl
-    (answers_one showing.halves one.us c.push-seen.result (c.push-seen.ensures.sees showing.halves showing.stands))
-    wrote.1 wrote.2.0 wrote.2.1)
+    let listing = c.runs.invariant in
+    let taken = c.take_buffered_halves-count.ensures in
+    let gave = next_halves listing taken.taken in
+    let before = count_before _ _ taken.count
+    (counted_halves _ listing gave c.halves_left-most.ensures c.halves_left.ensures) in
+    let held = c.in_err-hold_halves.ensures.holds listing.halves listing.stands before in
+    rw (p.1, p.2) (stops_at_halves _ listing gave seen-grows held.some held.rest held.holds.0 held.items held.whole
+    held.adds held.holds.1 held.holds.2.0 held.holds.2.1)
 
--- a word that is no half at hand
+-- another word
 
 pub runs-preserved : goal.runs-preserved
 runs-preserved g c =
-    let took = rw (c.in-Ok-Some.is, c.in-Ok-Some.field-0-is, c.in-None.ensures.none) at
-    c.in_ok-run-in-None.ensures in
+    let none = none_taken _ _ _ _ c.if-count-gt0.false c.take_buffered_halves-count.ensures.taken in
+    let took = rw (c.in-Ok-Some.is, c.in-Ok-Some.field-0-is, none) at
+    c.in_ok-run.ensures in
     let within = at_some_half c.in-Ok-Some.run' c.push_run-shown.result took.0.1 c.push_run-shown.ensures.nothing
     c.push_run-shown.ensures.something in
     let showing = Listing-wrote c.runs.invariant took.1 took.2 in
@@ -62,10 +75,11 @@ runs-preserved g c =
 
 pub returns-in_err-hold_seen-in-Ok-Some : goal.returns-in_err-hold_seen-in-Ok-Some
 returns-in_err-hold_seen-in-Ok-Some g c =
+    let none = none_taken _ _ _ _ c.if-count-gt0.false c.take_buffered_halves-count.ensures.taken in
     let p = err_from_is_err_and c.from_residual-in_err-hold_seen-in-Ok-Some.result
     c.from_residual-in_err-hold_seen-in-Ok-Some.ensures.1 in
-    let took = rw (c.in-Ok-Some.is, c.in-Ok-Some.field-0-is, c.in-None.ensures.none) at
-    c.in_ok-run-in-None.ensures in
+    let took = rw (c.in-Ok-Some.is, c.in-Ok-Some.field-0-is, none) at
+    c.in_ok-run.ensures in
     let within = at_some_half c.in-Ok-Some.run' c.push_run-shown.result took.0.1 c.push_run-shown.ensures.nothing
     c.push_run-shown.ensures.something in
     let showing = Listing-wrote c.runs.invariant took.1 took.2 in
@@ -78,19 +92,22 @@ returns-in_err-hold_seen-in-Ok-Some g c =
 
 pub returns-in-Ok-None : goal.returns-in-Ok-None
 returns-in-Ok-None g c =
-    let took = rw (c.in-Ok-None.is, c.in-Ok-None.field-0-is, c.in-None.ensures.none) at
-    c.in_ok-run-in-None.ensures in
+    let none = none_taken _ _ _ _ c.if-count-gt0.false c.take_buffered_halves-count.ensures.taken in
+    let took = rw (c.in-Ok-None.is, c.in-Ok-None.field-0-is, none) at
+    c.in_ok-run.ensures in
     stops_at_end (Listing-wrote c.runs.invariant took.1 took.2) seen-grows took.0 c.write_rest.ensures
 
 pub returns-in-Err : goal.returns-in-Err
 returns-in-Err g c =
-    let took = rw (c.in-None.ensures.none, c.in-Err.is) at c.in_ok-run-in-None.ensures in
+    let none = none_taken _ _ _ _ c.if-count-gt0.false c.take_buffered_halves-count.ensures.taken in
+    let took = rw (none, c.in-Err.is) at c.in_ok-run.ensures in
     let rest = rw c.from.ensures at c.write_rest-in-Err.ensures in
     stops_at_fault (Listing-wrote c.runs.invariant took.1 took.2) _ c.in-Err.fault took.0 rest
 
-pub returns-in_err-run-in-None : goal.returns-in_err-run-in-None
-returns-in_err-run-in-None g c =
-    let p = err_from_is_err_and c.from_residual-in_err-run-in-None.result
-    c.from_residual-in_err-run-in-None.ensures.1 in
-    let failed = rw c.in-None.ensures.none at c.in_err-run-in-None.ensures in
+pub returns-in_err-run : goal.returns-in_err-run
+returns-in_err-run g c =
+    let none = none_taken _ _ _ _ c.if-count-gt0.false c.take_buffered_halves-count.ensures.taken in
+    let p = err_from_is_err_and c.from_residual-in_err-run.result
+    c.from_residual-in_err-run.ensures.1 in
+    let failed = rw none at c.in_err-run.ensures in
     rw (p.1, p.2, failed.0) (stops_before_read c.runs.invariant seen-grows failed.1 failed.2)

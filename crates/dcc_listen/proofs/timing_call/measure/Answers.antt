@@ -1,8 +1,8 @@
-use Rattle.std.proofs.Common.{arith, subst, sym}
+use Rattle.std.proofs.Common.{arith, length, replicate, subst, sym, take}
+use Rattle.std.proofs.lemmas.List.{length-replicate, length-take-le}
 use Rattle.std.proofs.lemmas.Result.{err_from_is_err_and}
-use Rattle.dcc_io.specs.declared.word.Run.{Run}
 use Rattle.dcc_io.specs.InputState.{InputState}
-use Rattle.dcc_capture.proofs.HalfLemmas.{half_taken}
+use Rattle.dcc_capture.proofs.HalfLemmas.{fewer_bytes, halves_taken, none_taken}
 use Rattle.dcc_lost.specs.MeasuresTrack.{MeasuresTrack}
 use Rattle.dcc_listen.proofs.TimingLemmas.{Measuring, measured_all, measuring_more, measuring_none, measuring_room}
 use Rattle.dcc_listen.proofs.TimingLemmas.{measuring_stops}
@@ -11,53 +11,70 @@ use Rattle.dcc_listen.proofs.timing_call.measure.Goals as goal
 pub runs-init : goal.runs-init
 runs-init g c = measuring_none c.args.input.now (MeasuresTrack c.new-figures.result) c.requires c.new-figures.ensures
 
--- a half-bit that the buffer has
+-- half-bits that the buffer has
 
-pub push-requires : goal.push-requires
-push-requires g c =
-    let one : Run = record { us = c.in-Some.us; n = 1 } in
-    measuring_room c.args.input.now c.runs.input c.take_buffered_half.new.input (MeasuresTrack c.runs.figures)
-    c.runs.figures.timings.halves one c.halves_left-most.result c.halves_left-most.ensures
-    c.halves_left-most.type_inv (λ halves are. omega (arith, are.measured.count)) c.runs.invariant
-    (half_taken c.in-Some.ensures.some).0
+pub push_all-requires : goal.push_all-requires
+push_all-requires g c =
+    let batch = c.take_buffered_halves-count in
+    let given = take batch.result batch.new.halves in
+    let gave = halves_taken c.runs.input batch.new.input given c.runs.invariant.gave.items.fault batch.ensures.taken in
+    measuring_room c.args.input.now c.runs.input batch.new.input (MeasuresTrack c.runs.figures)
+    c.runs.figures.timings.halves given c.halves_left-most.result c.halves_left-most.ensures
+    c.halves_left-most.type_inv (λ halves are. omega (arith, are.measured.count)) c.runs.invariant gave
 
-pub runs-preserved-in-Some : goal.runs-preserved-in-Some
-runs-preserved-in-Some g c =
-    let one : Run = record { us = c.in-Some.us; n = 1 } in
-    measuring_more c.args.input.now c.runs.input c.take_buffered_half.new.input (MeasuresTrack c.runs.figures)
-    (MeasuresTrack c.push.new.self) one (half_taken c.in-Some.ensures.some).0 c.push.ensures.measures
-    c.runs.invariant
+pub runs-smaller-then-count-gt0 : goal.runs-smaller-then-count-gt0
+runs-smaller-then-count-gt0 g c =
+    let batch = c.take_buffered_halves-count in
+    let len = length-take-le batch.result batch.new.halves batch.ensures.count in
+    let some = c.if-count-gt0.true in
+    fewer_bytes c.runs.input batch.new.input (take batch.result batch.new.halves) c.runs.invariant.gave.items.fault
+    batch.ensures.taken (omega arith)
+
+pub runs-preserved-then-count-gt0 : goal.runs-preserved-then-count-gt0
+runs-preserved-then-count-gt0 g c =
+    let batch = c.take_buffered_halves-count in
+    let given = take batch.result batch.new.halves in
+    let gave = halves_taken c.runs.input batch.new.input given c.runs.invariant.gave.items.fault batch.ensures.taken in
+    measuring_more c.args.input.now c.runs.input batch.new.input (MeasuresTrack c.runs.figures)
+    (MeasuresTrack c.push_all.new.self) given gave c.push_all.ensures.measures c.runs.invariant
 
 -- another word
 
 pub push_run-requires : goal.push_run-requires
 push_run-requires g c =
-    let answer = rw (c.in-Some-2.is, c.in-None.ensures.none) at
-    (c.in_ok-run-in-None.ensures.reads (rw c.in-None.ensures.none c.runs.invariant.gave.items.fault)) in
-    measuring_room c.args.input.now c.runs.input c.read_run.new.input (MeasuresTrack c.runs.figures)
-    c.runs.figures.timings.halves c.in-Some-2.run' c.halves_left-most.result c.halves_left-most.ensures
-    c.halves_left-most.type_inv (λ halves are. omega (arith, are.measured.count)) c.runs.invariant answer.0
+    let none = none_taken _ _ _ _ c.if-count-gt0.false c.take_buffered_halves-count.ensures.taken in
+    let answer = rw (c.in-Some.is, none) at
+    (c.in_ok-run.ensures.reads (rw none c.runs.invariant.gave.items.fault)) in
+    let run = c.in-Some.run' in
+    rw length-replicate at (measuring_room c.args.input.now c.runs.input c.read_run.new.input
+    (MeasuresTrack c.runs.figures) c.runs.figures.timings.halves (replicate run.n run.us) c.halves_left-most.result
+    c.halves_left-most.ensures c.halves_left-most.type_inv (λ halves are. omega (arith, are.measured.count))
+    c.runs.invariant answer.0)
 
 pub runs-preserved : goal.runs-preserved
 runs-preserved g c =
-    let answer = rw (c.in-Some-2.is, c.in-None.ensures.none) at
-    (c.in_ok-run-in-None.ensures.reads (rw c.in-None.ensures.none c.runs.invariant.gave.items.fault)) in
+    let none = none_taken _ _ _ _ c.if-count-gt0.false c.take_buffered_halves-count.ensures.taken in
+    let answer = rw (c.in-Some.is, none) at
+    (c.in_ok-run.ensures.reads (rw none c.runs.invariant.gave.items.fault)) in
+    let run = c.in-Some.run' in
     measuring_more c.args.input.now c.runs.input c.read_run.new.input (MeasuresTrack c.runs.figures)
-    (MeasuresTrack c.push_run.new.self) c.in-Some-2.run' answer.0 c.push_run.ensures.measures c.runs.invariant
+    (MeasuresTrack c.push_run.new.self) (replicate run.n run.us) answer.0 c.push_run.ensures.measures c.runs.invariant
 
-pub returns-in-None-2 : goal.returns-in-None-2
-returns-in-None-2 g c =
-    let answer = rw (c.in-None-2.is, c.in-None.ensures.none) at
-    (c.in_ok-run-in-None.ensures.reads (rw c.in-None.ensures.none c.runs.invariant.gave.items.fault)) in
+pub returns-in-None : goal.returns-in-None
+returns-in-None g c =
+    let none = none_taken _ _ _ _ c.if-count-gt0.false c.take_buffered_halves-count.ensures.taken in
+    let answer = rw (c.in-None.is, none) at
+    (c.in_ok-run.ensures.reads (rw none c.runs.invariant.gave.items.fault)) in
     measured_all c.args.input.now c.runs.input c.read_run.new.input (MeasuresTrack c.runs.figures) c.runs.invariant
     answer
 
-pub returns-in_err-run-in-None : goal.returns-in_err-run-in-None
-returns-in_err-run-in-None g c =
+pub returns-in_err-run : goal.returns-in_err-run
+returns-in_err-run g c =
     let p = err_from_is_err_and c.from_residual.result c.from_residual.ensures.1 in
+    let none = none_taken _ _ _ _ c.if-count-gt0.false c.take_buffered_halves-count.ensures.taken in
     let so_far = subst (λ (state : InputState). Measuring c.args.input.now state (MeasuresTrack c.runs.figures))
-    (sym c.in-None.ensures.none) c.runs.invariant in
+    (sym none) c.runs.invariant in
     rw (p.1, p.2)
-    (measuring_stops c.args.input.now c.take_buffered_half.new.input c.read_run.new.input
+    (measuring_stops c.args.input.now c.take_buffered_halves-count.new.input c.read_run.new.input
     (MeasuresTrack c.runs.figures) _ so_far
-    (c.in_err-run-in-None.ensures.reads (rw c.in-None.ensures.none c.runs.invariant.gave.items.fault)))
+    (c.in_err-run.ensures.reads (rw none c.runs.invariant.gave.items.fault)))

@@ -1,4 +1,4 @@
-use Rattle.dcc_io.proofs.BufferedLemmas.{slice_range-skip, consumes_front}
+use Rattle.dcc_io.proofs.BufferedLemmas.{slice_range-skip, consumes_front, stays_unknown}
 use Rattle.dcc_io.proofs.buffered.Buffered.skip.Goals as goal
 
 pub returns-clause-ahead : goal.returns-clause-ahead
@@ -13,3 +13,6 @@ returns-clause-text g c =
     c.self.invariant.0
     (rw (← c.self.view_is) at c.requires) in
     rw (← c.self.view_is, ahead) (consumes_front _ c.args.count _)
+
+pub returns-clause-unknown : goal.returns-clause-unknown
+returns-clause-unknown g c = rw (← c.self.view_is) (λ unknown. stays_unknown _ _ _ unknown)
