@@ -4,6 +4,7 @@
 use Rattle.std.specs.Prelude.{◌≡◌, ℕ, ◌≤◌, ◌<◌, ◌==◌, nat_le, ◌&&◌, not, Bool, true, List, [], ◌∷◌, ◌++◌, length}
 use Rattle.std.specs.Prelude.{Result, Ok, Err}
 use Rattle.std.specs.Char.{is_ascii}
+use Rattle.std.specs.Fmt.{decimal}
 use Rattle.std.specs.List.{list_all, AllByRecursion}
 use Rattle.dcc_packet.specs.declared.fault.PacketFault.{PacketFault}
 use Rattle.dcc_packet.specs.declared.fault.PacketFault.TheVariants as faults
@@ -44,6 +45,11 @@ pub record FieldOf (A : Type 0) : Type 1 where
 abbrev pub one_word : {A : Type 0} → (Word → Result A PacketFault) → (A → Word) → FieldOf A
 one_word rule word =
     record { Fits = λ x. Unit {0}; read = λ words. word_and_rest rule words; written = λ x. word x ∷ [] }
+
+-- a field of one word, which is a number in decimal digits. The function `rule` parses the number,
+-- `make` makes a value of it, and `number_of` returns the number of a value.
+abbrev pub one_number : {A : Type 0} → (Word → Result ℕ PacketFault) → (ℕ → Result A PacketFault) → (A → ℕ) → FieldOf A
+one_number rule make number_of = one_word (λ word. rule word >>= make) (λ x. decimal (number_of x))
 
 -- the field `first` followed by the field `second`
 abbrev pub both : {A B : Type 0} → FieldOf A → FieldOf B → FieldOf (A × B)

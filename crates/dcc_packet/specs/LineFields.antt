@@ -15,13 +15,11 @@ use Rattle.dcc_packet.specs.declared.functions.GroupBits.{GroupBits}
 use Rattle.dcc_packet.specs.declared.speed.SpeedBits28.{SpeedBits28}
 use Rattle.dcc_packet.specs.declared.speed.SpeedBits128.{SpeedBits128}
 use Rattle.dcc_packet.specs.declared.state.StateNumber.{StateNumber}
-use Rattle.dcc_packet.specs.Fields.{FieldOf, one_word, word_and_rest}
-use Rattle.dcc_packet.specs.LineWords.{◌>>=◌, address, address_word, number, small_number, board_number, output_number}
-use Rattle.dcc_packet.specs.LineWords.{signal_number, switch, switch_word, direction, direction_word, bit_state}
-use Rattle.dcc_packet.specs.LineWords.{state_word}
-use Rattle.dcc_packet.specs.LineWords.{speed28_bits, speed128_bits, group, group_bits, group_word, state_number}
-use Rattle.dcc_packet.specs.LineWords.{cv_number}
-use Rattle.dcc_packet.specs.LineWords.{bit_place}
+use Rattle.dcc_packet.specs.Fields.{FieldOf, one_word, one_number, word_and_rest}
+use Rattle.dcc_packet.specs.LineWords.{◌>>=◌, address, address_word, number, small_number, switch, switch_word}
+use Rattle.dcc_packet.specs.LineWords.{direction, direction_word, bit_state, state_word, group, group_word}
+use Rattle.dcc_packet.specs.Values.{board_of, output_of, signal_of, speed28_of, speed128_of, functions_of, state_of}
+use Rattle.dcc_packet.specs.Values.{cv_of, place_of}
 use Rattle.dcc_packet.specs.Words.{Word}
 
 -- the field without words, for a form that has only a keyword
@@ -34,15 +32,15 @@ address_field = one_word address address_word
 
 -- the field BOARD: the number of an accessory decoder
 abbrev pub board_field : FieldOf Board
-board_field = one_word board_number (λ board. decimal board.number)
+board_field = one_number number board_of (λ board. board.number)
 
 -- the field OUTPUT: the number of an output of an accessory decoder
 abbrev pub output_field : FieldOf Output
-output_field = one_word output_number (λ output. decimal output.number)
+output_field = one_number small_number output_of (λ output. output.number)
 
 -- the field ADDRESS: the address of a signal
 abbrev pub signal_field : FieldOf SignalAddress
-signal_field = one_word signal_number (λ address. decimal address.number)
+signal_field = one_number number signal_of (λ address. address.number)
 
 abbrev pub switch_of : Word → Result Switch PacketFault
 switch_of word = do
@@ -91,16 +89,16 @@ number_field =
 
 -- the field BITS of the form `speed28`
 abbrev pub speed28_field : FieldOf SpeedBits28
-speed28_field = one_word speed28_bits (λ speed. decimal speed.bits)
+speed28_field = one_number small_number speed28_of (λ speed. speed.bits)
 
 -- the field BITS of the form `speed128`
 abbrev pub speed128_field : FieldOf SpeedBits128
-speed128_field = one_word speed128_bits (λ speed. decimal speed.bits)
+speed128_field = one_number small_number speed128_of (λ speed. speed.bits)
 
 abbrev pub functions_of_words : List Word → Result (GroupBits × List Word) PacketFault
 functions_of_words words = do
   named ← word_and_rest group words
-  word_and_rest (group_bits named.0) named.1
+  word_and_rest (λ word. small_number word >>= functions_of named.0) named.1
 
 -- the two fields GROUP and BITS of the form `functions`
 abbrev pub functions_field : FieldOf GroupBits
@@ -113,12 +111,12 @@ functions_field =
 
 -- the field NUMBER: the number of a binary state
 abbrev pub state_field : FieldOf StateNumber
-state_field = one_word state_number (λ state. decimal state.number)
+state_field = one_number small_number state_of (λ state. state.number)
 
 -- the field CV: the number of a CV
 abbrev pub cv_field : FieldOf CvNumber
-cv_field = one_word cv_number (λ cv. decimal cv.number)
+cv_field = one_number number cv_of (λ cv. cv.number)
 
 -- the field PLACE: the place of a bit in a CV
 abbrev pub place_field : FieldOf BitPlace
-place_field = one_word bit_place (λ place. decimal place.place)
+place_field = one_number small_number place_of (λ place. place.place)

@@ -7,17 +7,8 @@ use Rattle.std.specs.List.{list_all}
 use Rattle.std.specs.Str.Parse.{digits_value}
 use Rattle.dcc_packet.specs.declared.address.Address.{Address}
 use Rattle.dcc_packet.specs.declared.address.Address.TheVariants.{Broadcast, Short, Long}
-use Rattle.dcc_packet.specs.declared.accessory.Board.{Board}
-use Rattle.dcc_packet.specs.declared.accessory.Output.{Output}
-use Rattle.dcc_packet.specs.declared.accessory.SignalAddress.{SignalAddress}
-use Rattle.dcc_packet.specs.declared.cv.BitPlace.{BitPlace}
-use Rattle.dcc_packet.specs.declared.cv.CvNumber.{CvNumber}
 use Rattle.dcc_packet.specs.declared.functions.Group.{Group}
 use Rattle.dcc_packet.specs.declared.functions.Group.TheVariants.{F0, F5, F9, F13, F21, F29, F37, F45, F53, F61}
-use Rattle.dcc_packet.specs.declared.functions.GroupBits.{GroupBits}
-use Rattle.dcc_packet.specs.declared.speed.SpeedBits28.{SpeedBits28}
-use Rattle.dcc_packet.specs.declared.speed.SpeedBits128.{SpeedBits128}
-use Rattle.dcc_packet.specs.declared.state.StateNumber.{StateNumber}
 use Rattle.dcc_packet.specs.declared.fault.PacketFault.{PacketFault}
 use Rattle.dcc_packet.specs.declared.fault.PacketFault.TheVariants as faults
 use Rattle.dcc_wire.specs.declared.frame.Frame.{Frame}
@@ -25,8 +16,7 @@ use Rattle.dcc_wire.specs.declared.frame.FrameFault.{FrameFault}
 use Rattle.dcc_wire.specs.FrameOf.{frame_of}
 use Rattle.hex.specs.declared.error.FromHexError.{FromHexError}
 use Rattle.hex.specs.Hex.{decode_of}
-use Rattle.dcc_packet.specs.Values.{short_of, long_of, speed28_of, speed128_of, functions_of, state_of, cv_of}
-use Rattle.dcc_packet.specs.Values.{place_of, board_of, output_of, signal_of}
+use Rattle.dcc_packet.specs.Values.{short_of, long_of}
 use Rattle.dcc_packet.specs.Words.{Word, is_word}
 
 -- the result of `f` for the value `x`, or the error `e` if there is no value
@@ -68,14 +58,6 @@ direction word =
     else if is_word word (codes "r") then Ok false
     else Err faults.Word
 
--- the five speed bits that a word BITS of the form `speed28` means, or the error of the word
-abbrev pub speed28_bits : Word → Result SpeedBits28 PacketFault
-speed28_bits word = small_number word >>= speed28_of
-
--- the seven speed bits that a word BITS of the form `speed128` means, or the error of the word
-abbrev pub speed128_bits : Word → Result SpeedBits128 PacketFault
-speed128_bits word = small_number word >>= speed128_of
-
 -- the function group that a word GROUP means, or the error of the word. The word is 0 for F0 to F4,
 -- otherwise the number of the first function of the group.
 abbrev pub group : Word → Result Group PacketFault
@@ -92,22 +74,6 @@ group word =
     else if is_word word (codes "61") then Ok F61
     else Err faults.Word
 
--- the bits of function group `g` that a word BITS means, or the error of the word
-abbrev pub group_bits : Group → Word → Result GroupBits PacketFault
-group_bits g word = small_number word >>= functions_of g
-
--- the number of a binary state that a word NUMBER means, or the error of the word
-abbrev pub state_number : Word → Result StateNumber PacketFault
-state_number word = small_number word >>= state_of
-
--- the number of a CV that a word CV means, or the error of the word
-abbrev pub cv_number : Word → Result CvNumber PacketFault
-cv_number word = number word >>= cv_of
-
--- the place of a bit that a word PLACE means, or the error of the word
-abbrev pub bit_place : Word → Result BitPlace PacketFault
-bit_place word = small_number word >>= place_of
-
 -- the bit that a packet writes or verifies: true for the word `1`, false for the word `0`,
 -- otherwise the error P10
 abbrev pub bit_state : Word → Result Bool PacketFault
@@ -116,24 +82,12 @@ bit_state word =
     else if is_word word (codes "0") then Ok false
     else Err faults.Word
 
--- the number of an accessory decoder that a word BOARD means, or the error of the word
-abbrev pub board_number : Word → Result Board PacketFault
-board_number word = number word >>= board_of
-
--- the number of an output that a word OUTPUT means, or the error of the word
-abbrev pub output_number : Word → Result Output PacketFault
-output_number word = small_number word >>= output_of
-
 -- true for the word `on`, false for the word `off`, otherwise the error P10
 abbrev pub switch : Word → Result Bool PacketFault
 switch word =
     if is_word word (codes "on") then Ok true
     else if is_word word (codes "off") then Ok false
     else Err faults.Word
-
--- the address of a signal that a word ADDRESS means, or the error of the word
-abbrev pub signal_number : Word → Result SignalAddress PacketFault
-signal_number word = number word >>= signal_of
 
 -- the bytes of a frame. If there is no frame, the result is the error P12.
 abbrev pub frame_or_fault : Result Frame FrameFault → Result (List ℕ) PacketFault

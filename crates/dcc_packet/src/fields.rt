@@ -5,10 +5,7 @@ ghost use Rattle.dcc_packet.specs.LineFields.{speed28_field, speed128_field, fun
 ghost use Rattle.dcc_packet.specs.LineFields.{no_fields, place_field};
 
 use crate::field::{Field, Line};
-use crate::line_word::{
-    address, bit_place, bit_state, board_number, cv_number, direction, group, group_bits,
-    output_number, signal_number, speed28_bits, speed128_bits, state_number, switch,
-};
+use crate::line_word::{address, bit_state, direction, group, switch};
 use crate::numeral::{number, small_number};
 use crate::to_line_word::{
     direction_word, group_word, put_address, put_number, put_word, state_word, switch_word,
@@ -85,7 +82,7 @@ impl Field for Board {
     ghost most = { 6 };
 
     fn take(words: &mut Words) -> Result<Board, PacketFault> {
-        words.word().and_then(board_number)
+        words.word().and_then(number).and_then(Board::new)
     }
 
     fn put(&self, line: &mut Line) {
@@ -102,7 +99,7 @@ impl Field for Output {
     ghost most = { 6 };
 
     fn take(words: &mut Words) -> Result<Output, PacketFault> {
-        words.word().and_then(output_number)
+        words.word().and_then(small_number).and_then(Output::new)
     }
 
     fn put(&self, line: &mut Line) {
@@ -119,7 +116,7 @@ impl Field for SignalAddress {
     ghost most = { 6 };
 
     fn take(words: &mut Words) -> Result<SignalAddress, PacketFault> {
-        words.word().and_then(signal_number)
+        words.word().and_then(number).and_then(SignalAddress::new)
     }
 
     fn put(&self, line: &mut Line) {
@@ -190,7 +187,10 @@ impl Field for SpeedBits28 {
     ghost most = { 6 };
 
     fn take(words: &mut Words) -> Result<SpeedBits28, PacketFault> {
-        words.word().and_then(speed28_bits)
+        words
+            .word()
+            .and_then(small_number)
+            .and_then(SpeedBits28::new)
     }
 
     fn put(&self, line: &mut Line) {
@@ -207,7 +207,10 @@ impl Field for SpeedBits128 {
     ghost most = { 6 };
 
     fn take(words: &mut Words) -> Result<SpeedBits128, PacketFault> {
-        words.word().and_then(speed128_bits)
+        words
+            .word()
+            .and_then(small_number)
+            .and_then(SpeedBits128::new)
     }
 
     fn put(&self, line: &mut Line) {
@@ -225,7 +228,8 @@ impl Field for GroupBits {
 
     fn take(words: &mut Words) -> Result<GroupBits, PacketFault> {
         let group = words.word().and_then(group)?;
-        group_bits(group, words.word()?)
+        let bits = words.word().and_then(small_number)?;
+        GroupBits::new(group, bits)
     }
 
     fn put(&self, line: &mut Line) {
@@ -243,7 +247,10 @@ impl Field for StateNumber {
     ghost most = { 6 };
 
     fn take(words: &mut Words) -> Result<StateNumber, PacketFault> {
-        words.word().and_then(state_number)
+        words
+            .word()
+            .and_then(small_number)
+            .and_then(StateNumber::new)
     }
 
     fn put(&self, line: &mut Line) {
@@ -260,7 +267,7 @@ impl Field for CvNumber {
     ghost most = { 6 };
 
     fn take(words: &mut Words) -> Result<CvNumber, PacketFault> {
-        words.word().and_then(cv_number)
+        words.word().and_then(number).and_then(CvNumber::new)
     }
 
     fn put(&self, line: &mut Line) {
@@ -277,7 +284,7 @@ impl Field for BitPlace {
     ghost most = { 6 };
 
     fn take(words: &mut Words) -> Result<BitPlace, PacketFault> {
-        words.word().and_then(bit_place)
+        words.word().and_then(small_number).and_then(BitPlace::new)
     }
 
     fn put(&self, line: &mut Line) {

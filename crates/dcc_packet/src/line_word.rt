@@ -1,15 +1,11 @@
 //! Functions that parse single words of packet lines.
 ghost use Rattle.std.specs.Prelude.{◌≡◌};
 ghost use Rattle.dcc_wire.specs.FrameOf.{frame_of};
-ghost use Rattle.dcc_packet.specs.LineWords.{address, direction, speed28_bits, speed128_bits, group, group_bits};
-ghost use Rattle.dcc_packet.specs.LineWords.{state_number, cv_number, bit_place, bit_state, board_number};
-ghost use Rattle.dcc_packet.specs.LineWords.{output_number, switch, signal_number, frame_or_fault, hex_frame};
+ghost use Rattle.dcc_packet.specs.LineWords.{address, direction, group, bit_state, switch};
+ghost use Rattle.dcc_packet.specs.LineWords.{frame_or_fault, hex_frame};
 
 use crate::numeral::{number, small_number};
-use crate::{
-    Address, BitPlace, Board, CvNumber, Group, GroupBits, Output, PacketFault, SignalAddress,
-    SpeedBits28, SpeedBits128, StateNumber,
-};
+use crate::{Address, Group, PacketFault};
 use dcc_wire::Frame;
 
 /// Returns the address that a word means. The word is `all`, or `s` or `l` followed by a number.
@@ -40,24 +36,6 @@ pub fn direction(word: &[u8]) -> Result<bool, PacketFault>
     }
 }
 
-/// Returns the speed bits for 28 steps that `word` means as a number.
-///
-/// Errors: P11 if the word is no number or a number above 255, P8 if the number is above 31.
-pub fn speed28_bits(word: &[u8]) -> Result<SpeedBits28, PacketFault>
-    ensures { result ≡ speed28_bits word.now }
-{
-    SpeedBits28::new(small_number(word)?)
-}
-
-/// Returns the speed bits for 128 steps that `word` means as a number.
-///
-/// Errors: P11 if the word is no number or a number above 255, P8 if the number is above 127.
-pub fn speed128_bits(word: &[u8]) -> Result<SpeedBits128, PacketFault>
-    ensures { result ≡ speed128_bits word.now }
-{
-    SpeedBits128::new(small_number(word)?)
-}
-
 /// Returns the function group that a word means: `0` for F1 to F4 and F0, otherwise the number of
 /// the first function of the group. A word with a leading zero is not accepted.
 ///
@@ -80,43 +58,6 @@ pub fn group(word: &[u8]) -> Result<Group, PacketFault>
     }
 }
 
-/// Returns the bits of `group` that `word` means as a number.
-///
-/// Errors: P11 if the word is no number or a number above 255, P9 if the bits are wider than the
-/// group.
-pub fn group_bits(group: Group, word: &[u8]) -> Result<GroupBits, PacketFault>
-    ensures { result ≡ group_bits group word.now }
-{
-    GroupBits::new(group, small_number(word)?)
-}
-
-/// Returns the number of a binary state.
-///
-/// Errors: P11 if the word is no number or a number above 255, P14 if the number is above 127.
-pub fn state_number(word: &[u8]) -> Result<StateNumber, PacketFault>
-    ensures { result ≡ state_number word.now }
-{
-    StateNumber::new(small_number(word)?)
-}
-
-/// Returns the number of a CV.
-///
-/// Errors: P11 if the word is no number or a number above 65535, P6 if the number is not 1 to 1024.
-pub fn cv_number(word: &[u8]) -> Result<CvNumber, PacketFault>
-    ensures { result ≡ cv_number word.now }
-{
-    CvNumber::new(number(word)?)
-}
-
-/// Returns the place of a bit in a CV.
-///
-/// Errors: P11 if the word is no number or a number above 255, P7 if the number is above 7.
-pub fn bit_place(word: &[u8]) -> Result<BitPlace, PacketFault>
-    ensures { result ≡ bit_place word.now }
-{
-    BitPlace::new(small_number(word)?)
-}
-
 /// Returns true for `1` and false for `0`.
 ///
 /// Errors: P10 for any other word.
@@ -130,24 +71,6 @@ pub fn bit_state(word: &[u8]) -> Result<bool, PacketFault>
     }
 }
 
-/// Returns the address of an accessory decoder.
-///
-/// Errors: P11 if the word is no number or a number above 65535, P3 if the number is above 511.
-pub fn board_number(word: &[u8]) -> Result<Board, PacketFault>
-    ensures { result ≡ board_number word.now }
-{
-    Board::new(number(word)?)
-}
-
-/// Returns the number of an output.
-///
-/// Errors: P11 if the word is no number or a number above 255, P4 if the number is above 7.
-pub fn output_number(word: &[u8]) -> Result<Output, PacketFault>
-    ensures { result ≡ output_number word.now }
-{
-    Output::new(small_number(word)?)
-}
-
 /// Returns true for `on` and false for `off`.
 ///
 /// Errors: P10 for any other word.
@@ -159,15 +82,6 @@ pub fn switch(word: &[u8]) -> Result<bool, PacketFault>
         b"off" => Ok(false),
         _ => Err(PacketFault::Word),
     }
-}
-
-/// Returns the address of a signal.
-///
-/// Errors: P11 if the word is no number or a number above 65535, P5 if the number is above 2047.
-pub fn signal_number(word: &[u8]) -> Result<SignalAddress, PacketFault>
-    ensures { result ≡ signal_number word.now }
-{
-    SignalAddress::new(number(word)?)
 }
 
 /// Returns the frame whose bytes `word` has as hex digits, in upper or lower case.

@@ -15,7 +15,8 @@ use Rattle.dcc_packet.specs.Fields.{IsToken}
 use Rattle.dcc_packet.specs.Words.{Word}
 use Rattle.dcc_packet.specs.Written.{spaced_words}
 use Rattle.dcc_packet.proofs.Tokens.{decimal_token, keyword_token}
-use Rattle.dcc_packet.proofs.WordsBack.{small_number-decimal, output_back}
+use Rattle.dcc_packet.proofs.UpTo.{output_back}
+use Rattle.dcc_packet.proofs.WordsBack.{small_number-decimal}
 use Rattle.dcc_regs.specs.Loco.{holds_one}
 use Rattle.dcc_regs.specs.Result.{RegisterMap}
 use Rattle.dcc_saved.specs.declared.decoder_line.Numbered.{Numbered}
@@ -54,7 +55,8 @@ module _ (kind : Numbered) where
             le-ltb 127 n (omega (arith, within)),
           ) refl
       go kinds.Out within some =
-          rw (output_back (record { number = n; in_range = omega (arith, within) })) refl
+          rw (small_number-decimal n (omega (arith, within)))
+          (rw (output_back (record { number = n; in_range = omega (arith, within) })) refl)
 
   -- these words from a number on are read as these bits
   record AreRead (n bits : ℕ) (words : List Word) : Type 0 where

@@ -20,7 +20,7 @@ use Rattle.dcc_saved.specs.TextReader.{Text, Stop, Reader, read_on, ◌>>=◌, f
 use Rattle.dcc_saved.specs.TextReader.{line_verdict, ended_line, line_by}
 use Rattle.dcc_saved.specs.TextReader.Stop.{cut, refused, too_many}
 use Rattle.dcc_saved.specs.TextRead.{at, result_of, answer_at, answer_in, TextStopsAt, Leads, RefusesText, ReadsValue}
-use Rattle.dcc_saved.specs.TextRead.{ContinuesAs, StopsAtDecoder, TextLinesAt, UsesThroughLine}
+use Rattle.dcc_saved.specs.TextRead.{ContinuesAs, StopsAtDecoder, TextLinesAt}
 use Rattle.dcc_io.proofs.TookLemmas.{if_some_map, map_text, Took-start, Took-map, Took-join, Stops-map}
 use Rattle.dcc_io.proofs.TookLemmas.{same_cond, Stops-behind, within_limit-used, within_limit-front, overflows}
 use Rattle.dcc_io.proofs.TookLemmas.{zero_fits, told_behind, LinesAt-behind}

@@ -8,9 +8,9 @@ use Rattle.dcc_packet.specs.LineFields.{no_fields, direction_field, bit_field, s
 use Rattle.dcc_packet.specs.Words.{is_word}
 use Rattle.dcc_packet.proofs.FieldsBack.{both_back}
 use Rattle.dcc_packet.proofs.FormsBack.{Found, found, other_word, whole_by_back, row_back}
-use Rattle.dcc_packet.proofs.LineFieldsBack.{direction_is_back, bit_is_back, small_is_back, nothing_is_back}
+use Rattle.dcc_packet.proofs.LineFieldsBack.{direction_is_back, bit_is_back, small_is_back, nothing_is_back, cv_is_back}
 use Rattle.dcc_packet.proofs.Tokens.{decimal_token, keyword_token}
-use Rattle.dcc_packet.proofs.WordsBack.{cv_back, small_number-decimal}
+use Rattle.dcc_packet.proofs.WordsBack.{small_number-decimal}
 use Rattle.dcc_regs.specs.declared.register.Who.TheVariants as who
 use Rattle.dcc_saved.specs.declared.decoder_line.Head.{Head}
 use Rattle.dcc_saved.specs.declared.decoder_line.Head.TheVariants as heads
@@ -94,7 +94,7 @@ loco_line_back least (behind.Cv cv value) fits =
     let byte = decimal_token value (omega (arith, fits.1)) in
     few_say (loco_line least) (behind.Cv cv value) (codes "cv") (decimal cv.number ∷ decimal value ∷ [])
     (keyword_token (codes "cv") refl, (number, (byte, tt))) (omega arith)
-    (rw (cv_back cv, le-ltb cv.number least fits.0, small_number-decimal value fits.1) refl)
+    (rw (cv_is_back.back cv _ tt, le-ltb cv.number least fits.0, small_number-decimal value fits.1) refl)
 loco_line_back least (behind.Head head) fits =
     let f = head_found head fits in
     let few : length f.words ≤ 38 = omega (arith, ap length f.is, few_words head) in

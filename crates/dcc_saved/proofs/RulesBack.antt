@@ -11,7 +11,8 @@ use Rattle.dcc_packet.specs.Fields.{FieldOf, IsToken, IsReadBack}
 use Rattle.dcc_packet.specs.Words.{Word}
 use Rattle.dcc_packet.proofs.FieldsBack.{one_word_back, both_back}
 use Rattle.dcc_packet.proofs.Tokens.{address_word_token, keyword_token, decimal_token}
-use Rattle.dcc_packet.proofs.WordsBack.{small_number-decimal, address_back, board_back}
+use Rattle.dcc_packet.proofs.LineFieldsBack.{board_is_back}
+use Rattle.dcc_packet.proofs.WordsBack.{small_number-decimal, address_back}
 use Rattle.dcc_regs.specs.declared.register.Speed.{Speed}
 use Rattle.dcc_regs.specs.declared.register.Speed.TheVariants.{Stop, Emergency, Step14, Step28, Step126}
 use Rattle.dcc_regs.specs.Addresses.{is_active}
@@ -46,8 +47,8 @@ not_511 n h = grind (arith, nat_tests)
 pub own_board_is_back : IsReadBack own_board_field
 own_board_is_back =
     record {
-      back = λ own rest h. rw (board_back own.board, not_511 own.board.number h) refl;
-      tokens = λ own h. (decimal_token own.board.number (omega (arith, own.board.in_range)), tt);
+      back = λ own rest h. rw (board_is_back.back own.board rest tt, not_511 own.board.number h) refl;
+      tokens = λ own h. board_is_back.tokens own.board tt;
     }
 
 -- the words of a speed that has a step

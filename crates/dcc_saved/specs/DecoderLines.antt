@@ -14,13 +14,13 @@ use Rattle.dcc_packet.specs.declared.fault.PacketFault.TheVariants as faults
 use Rattle.dcc_packet.specs.Bits.{is_one}
 use Rattle.dcc_packet.specs.Spelling.{spelling}
 use Rattle.dcc_packet.specs.Words.{Word, is_word}
-use Rattle.dcc_packet.specs.LineWords.{◌>>=◌, small_number, address, cv_number, board_number}
-use Rattle.dcc_packet.specs.LineWords.{output_number, hex_frame}
+use Rattle.dcc_packet.specs.LineWords.{◌>>=◌, small_number, address, hex_frame}
+use Rattle.dcc_packet.specs.Values.{output_of}
 use Rattle.dcc_packet.specs.declared.fields.Direction.{Direction}
 use Rattle.dcc_packet.specs.declared.fields.Bit.{Bit}
 use Rattle.dcc_packet.specs.Fields.{FieldOf, one_word, both, whole, word_and_rest, no_more_words}
 use Rattle.dcc_packet.specs.Forms.{FormOf, RowOf, row, whole_by, written_by}
-use Rattle.dcc_packet.specs.LineFields.{no_fields, direction_field, bit_field, small_field}
+use Rattle.dcc_packet.specs.LineFields.{no_fields, direction_field, bit_field, small_field, board_field, cv_field}
 use Rattle.dcc_regs.specs.declared.register.Who.TheVariants as who
 use Rattle.dcc_regs.specs.declared.register.Speed.{Speed}
 use Rattle.dcc_regs.specs.declared.register.Speed.TheVariants as speeds
@@ -111,21 +111,16 @@ own_address_field =
       written = λ own. own_address_word own.address ∷ [];
     }
 
--- the number of an accessory decoder in a word BOARD, from 0 to 510. The number 511 is the
+-- the field BOARD: the number of an accessory decoder, from 0 to 510. The number 511 is the
 -- broadcast address, and has an error.
-abbrev pub own_board : Word → Result OwnBoard PacketFault
-own_board word = do
-  board ← board_number word
-  if board.number == 511 then Err faults.Board else Ok (record { board = board })
-
--- the field BOARD: the number of an accessory decoder
 abbrev pub own_board_field : FieldOf OwnBoard
-own_board_field =
-    record {
-      Fits = λ own. nat_le own.board.number 510 ≡ true;
-      read = λ words. word_and_rest own_board words;
-      written = λ own. decimal own.board.number ∷ [];
-    }
+own_board_field = record {
+  Fits = λ own. nat_le own.board.number 510 ≡ true;
+  read = λ words. do
+    board ← board_field.read words
+    if board.0.number == 511 then Err faults.Board else Ok (record { board = board.0 }, board.1);
+  written = λ own. board_field.written own.board;
+}
 
 -- the form `loco ADDRESS`
 abbrev pub loco_head_form : FormOf Head OwnAddress
@@ -228,7 +223,7 @@ binary_state word = do
 
 abbrev pub out_number : Word → Result ℕ PacketFault
 out_number word = do
-  output ← output_number word
+  output ← small_number word >>= output_of
   Ok output.number
 
 abbrev pub number_word_of : Numbered → Word → Result ℕ PacketFault
@@ -302,7 +297,7 @@ pending_line active = keyed (codes "pending") (pending_field active)
 -- `least`.
 abbrev pub cv_words : ℕ → List Word → Result LocoLine PacketFault
 cv_words least rest = do
-  cv ← word_and_rest cv_number rest
+  cv ← cv_field.read rest
   ordered ← in_order least cv.0.number
   value ← word_and_rest small_number cv.1
   end ← no_more_words value.1

@@ -4,7 +4,8 @@ use Rattle.dcc_packet.specs.declared.accessory.Board.{Board}
 use Rattle.dcc_packet.specs.declared.address.Address.{Address}
 use Rattle.dcc_packet.specs.declared.fault.PacketFault.{PacketFault}
 use Rattle.dcc_packet.specs.Words.{Word}
-use Rattle.dcc_packet.specs.LineWords.{board_number}
+use Rattle.dcc_packet.specs.LineWords.{◌>>=◌, number}
+use Rattle.dcc_packet.specs.Values.{board_of}
 use Rattle.dcc_regs.specs.declared.register.Who.{Who}
 use Rattle.dcc_regs.specs.declared.register.Who.TheVariants as who
 use Rattle.dcc_io.specs.declared.fault.ToolFault.{ToolFault}
@@ -29,4 +30,5 @@ board_named (Err fault) = Err (faults.Usage usages.BadWho)
 -- number.
 unfoldable pub who_named : Word → Result Who ToolFault
 who_named word =
-    if slice_index word 0 == 98 then board_named (board_number (drop 1 word)) else loco_named (own_address word)
+    if slice_index word 0 == 98 then board_named (number (drop 1 word) >>= board_of)
+    else loco_named (own_address word)

@@ -124,16 +124,13 @@ fn read_board<R: Source>(input: &mut Input<R>, board: Board) -> Result<(Saved, H
     let positions = read_line(input, POSITIONS)?;
     let aspects = read_line(input, ASPECTS)?;
     let head = read_line(input, HeadLine)?;
+    let (side0, (side1, (side2, side3))) = positions;
+    let (aspect0, (aspect1, (aspect2, aspect3))) = aspects;
     let state = BoardState {
         board,
         outs: outs as u8,
-        positions: [
-            positions.0.one,
-            positions.1.0.one,
-            positions.1.1.0.one,
-            positions.1.1.1.one,
-        ],
-        aspects: [aspects.0, aspects.1.0, aspects.1.1.0, aspects.1.1.1],
+        positions: [side0.one, side1.one, side2.one, side3.one],
+        aspects: [aspect0, aspect1, aspect2, aspect3],
     };
     Ok((Saved::Board(state), head))
 }

@@ -17,10 +17,11 @@ ghost use Rattle.dcc_saved.specs.PendingWrite.{pending_write};
 ghost use Rattle.dcc_saved.specs.PossibleLines.{IsSoundLine};
 
 use crate::decoder_line::{LocoLine, Numbered, Version};
-use dcc_packet::line_word::{address, cv_number, hex_frame, output_number};
+use dcc_packet::field::Field;
+use dcc_packet::line_word::{address, hex_frame};
 use dcc_packet::numeral::small_number;
 use dcc_packet::words::Words;
-use dcc_packet::{Address, Packet, PacketFault};
+use dcc_packet::{Address, CvNumber, Output, Packet, PacketFault};
 use dcc_regs::{Speed, Who, hears, is_own_write};
 use dcc_wire::Frame;
 
@@ -171,7 +172,7 @@ fn number(numbered: Numbered, word: &[u8]) -> Result<u8, PacketFault>
     match numbered {
         Numbered::Function => function_number(word),
         Numbered::State => binary_state(word),
-        Numbered::Out => Ok(output_number(word)?.number()),
+        Numbered::Out => Ok(small_number(word).and_then(Output::new)?.number()),
     }
 }
 
@@ -245,7 +246,7 @@ pub(crate) fn cv_words(words: &mut Words, least: u16) -> Result<LocoLine, Packet
     ensures is { result ≡ cv_words least words.old }
     ensures sound { IfOk result (IsSoundLine least) }
 {
-    let cv = words.word().and_then(cv_number)?;
+    let cv = CvNumber::take(words)?;
     in_order(least, cv.number())?;
     let value = words.word().and_then(small_number)?;
     words.end()?;

@@ -1,12 +1,11 @@
 //! Functions that parse the word that names a decoder.
 ghost use Rattle.std.specs.Prelude.{◌≡◌};
-ghost use Rattle.dcc_packet.specs.LineWords.{board_number as board_of};
-ghost use Rattle.dcc_saved.specs.DecoderLines.{own_address as address_of};
 ghost use Rattle.dcc_saved.specs.WhoWord.{loco_named, board_named, who_named};
 
 use crate::decoder_words::own_address;
 use dcc_io::{ToolFault, Usage};
-use dcc_packet::line_word::board_number;
+use dcc_packet::numeral::number;
+use dcc_packet::{Address, Board, PacketFault};
 use dcc_regs::Who;
 
 /// Returns the decoder that a word names. The name of a locomotive decoder is `s` followed by a
@@ -26,26 +25,26 @@ fn who_of(word: &[u8]) -> Result<Who, ToolFault>
     ensures { result ≡ who_named word.now }
 {
     match word {
-        [b'b', digits @ ..] => board_named(digits),
-        _ => loco_named(word),
+        [b'b', digits @ ..] => board_named(number(digits).and_then(Board::new)),
+        _ => loco_named(own_address(word)),
     }
 }
 
-/// Returns the accessory decoder whose address has the digits `digits`.
-fn board_named(digits: &[u8]) -> Result<Who, ToolFault>
-    ensures { result ≡ board_named (board_of digits.now) }
+/// Returns the accessory decoder with the address `board`.
+fn board_named(board: Result<Board, PacketFault>) -> Result<Who, ToolFault>
+    ensures { result ≡ board_named board }
 {
-    match board_number(digits) {
+    match board {
         Ok(board) => Ok(Who::Board(board)),
         Err(_) => Err(ToolFault::Usage(Usage::BadWho)),
     }
 }
 
-/// Returns the locomotive decoder that the word names by its active address, or by `none`.
-fn loco_named(word: &[u8]) -> Result<Who, ToolFault>
-    ensures { result ≡ loco_named (address_of word.now) }
+/// Returns the locomotive decoder with the active address `active`.
+fn loco_named(active: Result<Option<Address>, PacketFault>) -> Result<Who, ToolFault>
+    ensures { result ≡ loco_named active }
 {
-    match own_address(word) {
+    match active {
         Ok(active) => Ok(Who::Loco(active)),
         Err(_) => Err(ToolFault::Usage(Usage::BadWho)),
     }
