@@ -82,7 +82,7 @@ impl Field for Board {
     ghost most = { 6 };
 
     fn take(words: &mut Words) -> Result<Board, PacketFault> {
-        words.word().and_then(number).and_then(Board::new)
+        u16::take(words).and_then(Board::new)
     }
 
     fn put(&self, line: &mut Line) {
@@ -99,7 +99,7 @@ impl Field for Output {
     ghost most = { 6 };
 
     fn take(words: &mut Words) -> Result<Output, PacketFault> {
-        words.word().and_then(small_number).and_then(Output::new)
+        u8::take(words).and_then(Output::new)
     }
 
     fn put(&self, line: &mut Line) {
@@ -116,7 +116,7 @@ impl Field for SignalAddress {
     ghost most = { 6 };
 
     fn take(words: &mut Words) -> Result<SignalAddress, PacketFault> {
-        words.word().and_then(number).and_then(SignalAddress::new)
+        u16::take(words).and_then(SignalAddress::new)
     }
 
     fn put(&self, line: &mut Line) {
@@ -187,10 +187,7 @@ impl Field for SpeedBits28 {
     ghost most = { 6 };
 
     fn take(words: &mut Words) -> Result<SpeedBits28, PacketFault> {
-        words
-            .word()
-            .and_then(small_number)
-            .and_then(SpeedBits28::new)
+        u8::take(words).and_then(SpeedBits28::new)
     }
 
     fn put(&self, line: &mut Line) {
@@ -207,10 +204,7 @@ impl Field for SpeedBits128 {
     ghost most = { 6 };
 
     fn take(words: &mut Words) -> Result<SpeedBits128, PacketFault> {
-        words
-            .word()
-            .and_then(small_number)
-            .and_then(SpeedBits128::new)
+        u8::take(words).and_then(SpeedBits128::new)
     }
 
     fn put(&self, line: &mut Line) {
@@ -228,7 +222,7 @@ impl Field for GroupBits {
 
     fn take(words: &mut Words) -> Result<GroupBits, PacketFault> {
         let group = words.word().and_then(group)?;
-        let bits = words.word().and_then(small_number)?;
+        let bits = u8::take(words)?;
         GroupBits::new(group, bits)
     }
 
@@ -247,10 +241,7 @@ impl Field for StateNumber {
     ghost most = { 6 };
 
     fn take(words: &mut Words) -> Result<StateNumber, PacketFault> {
-        words
-            .word()
-            .and_then(small_number)
-            .and_then(StateNumber::new)
+        u8::take(words).and_then(StateNumber::new)
     }
 
     fn put(&self, line: &mut Line) {
@@ -267,7 +258,7 @@ impl Field for CvNumber {
     ghost most = { 6 };
 
     fn take(words: &mut Words) -> Result<CvNumber, PacketFault> {
-        words.word().and_then(number).and_then(CvNumber::new)
+        u16::take(words).and_then(CvNumber::new)
     }
 
     fn put(&self, line: &mut Line) {
@@ -284,7 +275,7 @@ impl Field for BitPlace {
     ghost most = { 6 };
 
     fn take(words: &mut Words) -> Result<BitPlace, PacketFault> {
-        words.word().and_then(small_number).and_then(BitPlace::new)
+        u8::take(words).and_then(BitPlace::new)
     }
 
     fn put(&self, line: &mut Line) {
