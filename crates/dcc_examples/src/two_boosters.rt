@@ -41,14 +41,14 @@ pub fn compare_in_step(
 
 /// Returns the next packet of the first track. Returns `None` at the end of this track.
 fn next_left(comparer: &Comparer, track: &[Packet]) -> Option<Packet>
-    ensures { IsAt track.now comparer.now.left_given result }
+    ensures { IsAt track.now comparer.now.left.given result }
 {
     track.get(comparer.given().0 as usize).copied()
 }
 
 /// Returns the next packet of the second track. Returns `None` at the end of this track.
 fn next_right(comparer: &Comparer, track: &[Packet]) -> Option<Packet>
-    ensures { IsAt track.now comparer.now.right_given result }
+    ensures { IsAt track.now comparer.now.right.given result }
 {
     track.get(comparer.given().1 as usize).copied()
 }

@@ -59,8 +59,8 @@ fn give_next<S: Side>(
     requires open { S.is_open side.old }
     requires going { progress.old.ended ≡ false }
     requires counted { (start : S) × (packets : List PacketOf) × S.took start side.old packets progress.old
-        × (comparer.old.wants ≡ Wants.Left → comparer.old.left_given ≡ length packets)
-        × (comparer.old.wants ≡ Wants.Right → comparer.old.right_given ≡ length packets) }
+        × (comparer.old.wants ≡ Wants.Left → comparer.old.left.given ≡ length packets)
+        × (comparer.old.wants ≡ Wants.Right → comparer.old.right.given ≡ length packets) }
     ensures given { OnOk result ((item : Option PacketOf) × IsGiven comparer.old item comparer.new
         × ((start : S) (packets : List PacketOf) → S.took start side.old packets progress.old
         → S.took start side.new (packets ++ option_to_list item) progress.new)

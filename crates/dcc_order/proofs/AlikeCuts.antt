@@ -159,14 +159,13 @@ alike_after_each_block who left right alike k m cv place =
     ∙ sym (read-state_after m (through_block k (cut_for who right)) (CvBit cv place))
 
 -- the registers are the result of the packets that the halves hold
-pub holds : (who : Who) (start : RegisterMap) (halves : List ℕ) (who' : Who) (now : RegisterMap) (packets : List Packet)
-    → ArePackets packets halves
-    → HasHeardHalves halves who start who' now → now ≡ result who start packets
-holds who start halves who' now packets are heard =
-    heard.heard.registers ∙ ap (result who start) (one_list_of_packets halves heard.packets packets heard.seen are)
+pub holds : {who who' : Who} {start now : RegisterMap} {halves : List ℕ} (packets : List Packet)
+    → ArePackets packets halves → HasHeardHalves halves who start who' now → now ≡ result who start packets
+holds {who = who} {start = start} {halves = halves} packets are h =
+    h.heard.registers ∙ ap (result who start) (one_list_of_packets halves h.packets packets h.seen are)
 
 pub alike_halves_leave_the_same : AlikeHalvesLeaveTheSame
 alike_halves_leave_the_same who start left right a one other now after h k =
-    holds who start left one now a.packets a.seen h
+    holds a.packets a.seen h
     ∙ fun_ext (alike_lists who a.packets a.others a.alike start)
-    ∙ sym (holds who start right other after a.others a.others_seen k)
+    ∙ sym (holds a.others a.others_seen k)

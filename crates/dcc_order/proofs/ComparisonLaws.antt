@@ -15,6 +15,7 @@ use Rattle.dcc_regs.specs.Heard.{hears, heard}
 use Rattle.dcc_regs.specs.Result.{is_repeated}
 use Rattle.dcc_regs.specs.Writes.{is_own_write}
 use Rattle.dcc_order.specs.declared.comparison.Comparison.{Comparison}
+use Rattle.dcc_order.specs.declared.given_list.GivenList.{GivenList}
 use Rattle.dcc_order.specs.declared.last_heard.LastHeard.{LastHeard}
 use Rattle.dcc_order.specs.declared.verdict.Verdict.{Verdict}
 use Rattle.dcc_order.specs.declared.verdict.Verdict.TheVariants.{Members, Alike}
@@ -24,10 +25,11 @@ use Rattle.dcc_order.specs.AlikeLists.{Cut, LastBlock, Block, without_third_copi
 use Rattle.dcc_order.specs.AlikeLists.{AlikeBlocks}
 use Rattle.dcc_order.specs.OneMore.{ends_with_two}
 use Rattle.dcc_order.specs.GivenLists.{Lists, with_item, IsVerdictOfAll, writes_in, open_blocks_len, most_held}
-use Rattle.dcc_order.specs.Comparisons.{ComparerRepresents, GoesOn, WantsLeft, WantsRight, Settled, Stage, AlikeUpTo}
-use Rattle.dcc_order.specs.Comparisons.{open_cut}
-use Rattle.dcc_order.specs.Comparisons.{EndAlike, IsVerdictAtEnds, last_heard, heard_next, nothing_heard}
-use Rattle.dcc_order.specs.Inner.ComparisonSteps.{heard_left, heard_right, joined_left, closed_left, begun_block}
+use Rattle.dcc_order.specs.Comparisons.{ComparerRepresents, HasCounted, HasNoVerdict, Settled, Stage, AlikeUpTo, open_cut}
+use Rattle.dcc_order.specs.Comparisons.{EndAlike, IsVerdictAtEnds, last_heard, heard_next, nothing_heard, with_heard}
+use Rattle.dcc_order.specs.Held.{nothing_held}
+use Rattle.dcc_order.specs.InStep.{BecomesBy}
+use Rattle.dcc_order.specs.Inner.ComparisonSteps.{EndsRight}
 use Rattle.dcc_order.proofs.AlikeBlocks.{same_tells}
 use Rattle.dcc_order.proofs.AlikeCuts.{flat, flat-cut}
 use Rattle.dcc_order.proofs.OneMorePacket.{one_more_packet}
@@ -61,15 +63,28 @@ up_to_more third p (suc k) (Block left write x) (Block right other y) u w up =
     let more = up_to_more third p k x y u w up.2 in ((up.0, up.1, more.0), (up.0, up.1, more.1))
 up_to_more third p (suc k) x y u w up = absurd up
 
--- one more packet that the decoder hears: what was heard last then, and the cut list
-one_heard : (who : Who) (l : List Packet) (p : Packet) (before : LastHeard) (third : Bool)
-    → before ≡ last_heard (heard who l) → hears who p ≡ true → (is_own_write p && is_third before p) ≡ third
-    → (heard_next before p ≡ last_heard (heard who (l ++ p ∷ [])))
-    × (cut_for who (l ++ p ∷ []) ≡ one_cut third p (cut_for who l))
-one_heard who l p before third is hear e = (
-  rw (filter-append (hears who) l (p ∷ []), hear, fold-append heard_next nothing_heard (heard who l) (p ∷ []), is) refl,
-  rw (one_more_packet who l p, hear, ends_twice (heard who l) p, ← is, e) refl,
-)
+-- one more packet that the decoder hears: what is stored of its list then, and the cut list
+module _ {who : Who} {list : GivenList} {l : List Packet} (s : HasCounted who list l) (p : Packet)
+    (hear : hears who p ≡ true) where
+  counted : HasCounted who (with_heard list p) (l ++ p ∷ [])
+  counted = record {
+    given = omega (arith, s.given, length-append l (p ∷ []));
+    last = rw (
+      filter-append (hears who) l (p ∷ []),
+      hear,
+      fold-append heard_next nothing_heard (heard who l) (p ∷ []),
+      s.last,
+    ) refl;
+  }
+
+  its_cut : (third : Bool) → (is_own_write p && is_third list.last p) ≡ third
+      → cut_for who (l ++ p ∷ []) ≡ one_cut third p (cut_for who l)
+  its_cut third e = rw (one_more_packet who l p, hear, ends_twice (heard who l) p, ← s.last, e) refl
+
+-- the end of a list is alike with no end
+no_end_alike : (end : Option Packet) → EndAlike end None → ⊥
+no_end_alike None ends = ends
+no_end_alike (Some write) ends = ends
 
 -- where blocks that are alike end with one write, the next ones begin
 up_to_next : (end : Option Packet) (k : ℕ) (x y : Cut) (left right : List Packet) (p : Packet)
@@ -90,12 +105,23 @@ length-capped (p ∷ l) = elim (cases_Bool (is_own_write p && starts_with same l
   | inr e ↦ rw e (omega (arith, length-capped l))
 ]
 
--- no more blocks than packets
-blocks_before : (k : ℕ) (x y u w : Cut) → AlikeUpTo k x y u w → k ≤ length (flat y)
-blocks_before zero x y u w up = omega arith
-blocks_before (suc k) (Block left write x) (Block right other y) u w up =
-    omega (arith, blocks_before k x y u w up.2, length-append right (other ∷ flat y))
-blocks_before (suc k) x y u w up = absurd up
+-- no more packets in the blocks behind alike blocks, and no more alike blocks, than packets
+up_to_fits : (k : ℕ) (x y u w : Cut) → AlikeUpTo k x y u w
+    → (length (flat u) ≤ length (flat x)) × (k + length (flat w) ≤ length (flat y))
+up_to_fits zero x y u w up = rw (up.0, up.1) (omega arith, omega arith)
+up_to_fits (suc k) (Block left write x) (Block right other y) u w up =
+    let fits = up_to_fits k x y u w up.2 in
+    (omega (arith, fits.0, length-append left (write ∷ flat x)), omega (arith, fits.1, length-append right (other ∷ flat y)))
+up_to_fits (suc k) x y u w up = absurd up
+
+cut_fits : (who : Who) (l : List Packet) → length (flat (cut_for who l)) ≤ length l
+cut_fits who l = omega (
+  arith,
+  ap length (flat-cut (without_third_copies (heard who l))),
+  length-capped (heard who l),
+  length-filter (hears who) l,
+  count_by-le-length (hears who) l,
+)
 
 -- the open blocks are those behind the alike ones
 open_behind : (k : ℕ) (x y u w : Cut) → AlikeUpTo k x y u w → open_blocks_len x y ≡ open_blocks_len u w
@@ -117,8 +143,8 @@ settled_for who lists k u w v up s = λ lefts rights f g.
 pub stage_of : {w : Wants} {c : Comparison} {lists : Lists} → ComparerRepresents c lists → c.wants ≡ w → Stage w c lists
 stage_of {c = c} {lists = lists} s e = subst (λ w. Stage w c lists) e s.stage
 
--- a verdict is settled where both blocks have ended, the right one so
-module _ {c : Comparison} {lists : Lists} (w : WantsRight c lists) where
+-- a verdict is settled where both blocks have ended, the right one with a write or with its list
+module _ {c : Comparison} {lists : Lists} (w : HasNoVerdict c lists c.left_end (is_none c.left_end)) where
   settled : (right : List Packet) (ended : Bool) (end : Option Packet) (v : Verdict)
       → IsVerdictAtEnds c.block c.held.first c.left_end c.held.second end v → Finished ended end →
       AlikeUpTo c.block (cut_for c.who lists.left) (cut_for c.who right) (open_cut c.held.first c.left_end)
@@ -128,148 +154,137 @@ module _ {c : Comparison} {lists : Lists} (w : WantsRight c lists) where
         settled_for c.who (record lists { right = right; right_ended = ended }) c.block
         (open_cut c.held.first c.left_end) (open_cut c.held.second end) v up
         (settled_at_ends lists.left_ended ended c.block c.held.first c.held.second c.left_end end v
-        (λ e. w.left_end ∙ ap is_none e) f verdict);
+        (λ e. w.left_open ∙ ap is_none e) f verdict);
     both_ended = λ a.
         let ends = alike_at_ends c.block c.held.first c.held.second c.left_end end
         (subst (IsVerdictAtEnds c.block c.held.first c.left_end c.held.second end) a verdict) in
-        (w.left_end ∙ ap is_none ends.0, f ends.1);
+        (w.left_open ∙ ap is_none ends.0, f ends.1);
   }
 
+-- one more packet that the decoder hears, by what it does to the block of its list
 module _ {c : Comparison} {lists : Lists} (s : ComparerRepresents c lists) (p : Packet) (hear : hears c.who p ≡ true)
   where
-    -- while the left side is wanted
-    left_next : c.wants ≡ Left → (third : Bool) → (is_own_write p && is_third c.left_heard p) ≡ third
-        → (heard_next c.left_heard p ≡ last_heard (heard c.who (lists.left ++ p ∷ [])))
-        × AlikeUpTo c.block (cut_for c.who (lists.left ++ p ∷ [])) (cut_for c.who lists.right)
-        (one_cut third p (LastBlock c.held.first)) (LastBlock [])
-    left_next e third is =
-        let w = stage_of s e in
-        let next = one_heard c.who lists.left p c.left_heard third w.goes_on.left_heard hear is in
-        let up = up_to_more third p c.block (cut_for c.who lists.left) (cut_for c.who lists.right)
-        (LastBlock c.held.first)
-        (LastBlock []) w.up_to in (next.0, rw next.1 up.0)
+    left_next : c.wants ≡ Left → (third : Bool) → (is_own_write p && is_third c.left.last p) ≡ third
+        → AlikeUpTo c.block (cut_for c.who (lists.left ++ p ∷ [])) (cut_for c.who lists.right)
+        (one_cut third p (LastBlock c.held.first)) (LastBlock c.held.second)
+    left_next e third is = rw (its_cut s.left p hear third is) (up_to_more third p c.block (cut_for c.who lists.left)
+        (cut_for c.who lists.right) (LastBlock c.held.first) (LastBlock c.held.second) (stage_of s e).up_to).0
 
-    -- the packet is left out, ends the block or joins it
-    pub left_given : c.wants ≡ Left → (own third : Bool) → is_own_write p ≡ own → is_third c.left_heard p ≡ third
-        → ComparerRepresents (cond own (cond third (heard_left c p) (closed_left c p)) (joined_left c p))
+    right_next : c.wants ≡ Right → (third : Bool) → (is_own_write p && is_third c.right.last p) ≡ third
+        → AlikeUpTo c.block (cut_for c.who lists.left) (cut_for c.who (lists.right ++ p ∷ []))
+        (open_cut c.held.first c.left_end) (one_cut third p (LastBlock c.held.second))
+    right_next e third is = rw (its_cut s.right p hear third is) (up_to_more third p c.block (cut_for c.who lists.left)
+        (cut_for c.who lists.right) (open_cut c.held.first c.left_end) (LastBlock c.held.second) (stage_of s e).up_to).1
+
+    -- the packet of the left list is left out, ends the block or joins it
+    pub left_given : c.wants ≡ Left → (own third : Bool) → is_own_write p ≡ own → is_third c.left.last p ≡ third
+        → ComparerRepresents (record (cond own (cond third c (record c { left_end = Some p; wants = Right }))
+        (record c { held = record c.held { first = c.held.first ++ p ∷ [] } })) { left = with_heard c.left p })
         (with_item Left (Some p) lists)
     left_given e true true own twice =
-        rw e (search (arith, s, stage_of s e, left_next e true (rw (own, twice)), length-append))
+        rw e (search (s, stage_of s e, counted s.left p hear, left_next e true (rw (own, twice))))
     left_given e true false own apart =
-        let w = stage_of s e in
-        search (arith, s, w, rw (own, ← w.none_yet) at (left_next e false (rw (own, apart))), length-append)
+        search (s, stage_of s e, counted s.left p hear, rw own at (left_next e false (rw (own, apart))))
     left_given e false third own any =
-        rw e (search (arith, s, stage_of s e, rw own at (left_next e false (rw own)), length-append))
+        rw e (search (s, stage_of s e, counted s.left p hear, rw own at (left_next e false (rw own))))
 
-    -- while the right side is wanted
-    right_next : c.wants ≡ Right → (third : Bool) → (is_own_write p && is_third c.right_heard p) ≡ third
-        → (heard_next c.right_heard p ≡ last_heard (heard c.who (lists.right ++ p ∷ [])))
-        × AlikeUpTo c.block (cut_for c.who lists.left) (cut_for c.who (lists.right ++ p ∷ []))
-        (open_cut c.held.first c.left_end) (one_cut third p (LastBlock c.held.second))
-    right_next e third is =
-        let w = stage_of s e in
-        let next = one_heard c.who lists.right p c.right_heard third w.goes_on.right_heard hear is in
-        let up = up_to_more third p c.block (cut_for c.who lists.left) (cut_for c.who lists.right)
-        (open_cut c.held.first c.left_end) (LastBlock c.held.second) w.up_to in (next.0, rw next.1 up.1)
-
-    pub right_left_out : c.wants ≡ Right → is_own_write p ≡ true → is_third c.right_heard p ≡ true
-        → ComparerRepresents (heard_right c p) (with_item Right (Some p) lists)
+    pub right_left_out : c.wants ≡ Right → is_own_write p ≡ true → is_third c.right.last p ≡ true
+        → ComparerRepresents (record c { right = with_heard c.right p }) (with_item Right (Some p) lists)
     right_left_out e own twice =
-        let next = right_next e true (rw (own, twice)) in
-        rw e (search (arith, s, stage_of s e, next, length-append))
+        rw e (search (s, stage_of s e, counted s.right p hear, right_next e true (rw (own, twice))))
 
-    pub right_joined : c.wants ≡ Right → is_own_write p ≡ false →
-        ComparerRepresents (heard_right (record c { held = record c.held { second = c.held.second ++ p ∷ [] } }) p)
+    pub right_joined : c.wants ≡ Right → is_own_write p ≡ false → ComparerRepresents
+        (record c { held = record c.held { second = c.held.second ++ p ∷ [] }; right = with_heard c.right p })
         (with_item Right (Some p) lists)
     right_joined e own =
-        let next = rw own at (right_next e false (rw own)) in
-        rw e (search (arith, s, stage_of s e, next, length-append))
+        rw e (search (s, stage_of s e, counted s.right p hear, rw own at (right_next e false (rw own))))
 
-    pub right_foreign : c.wants ≡ Right → is_own_write p ≡ false → (Contains c.held.first p → ⊥) →
-        ComparerRepresents (heard_right (record c { wants = Done (Members c.block) }) p)
-        (with_item Right (Some p) lists)
+    pub right_foreign : c.wants ≡ Right → is_own_write p ≡ false → (Contains c.held.first p → ⊥) → ComparerRepresents
+        (record c { wants = Done (Members c.block); right = with_heard c.right p }) (with_item Right (Some p) lists)
     right_foreign e own none =
         let w = stage_of s e in
         let all = settled_for c.who (with_item Right (Some p) lists) c.block (open_cut c.held.first c.left_end)
-        (LastBlock (c.held.second ++ p ∷ [])) (Members c.block) (rw own at (right_next e false (rw own))).1
+        (LastBlock (c.held.second ++ p ∷ [])) (Members c.block) (rw own at (right_next e false (rw own)))
         (rw w.right_open (foreign_packet c.block c.held.first (c.held.second ++ p ∷ []) p lists.left_ended c.left_end
-        (λ e. w.left_end ∙ ap is_none e) none (Contains-push c.held.second p))) in
+        (λ e. w.left_open ∙ ap is_none e) none (Contains-push c.held.second p))) in
         let apart : Members c.block ≡ Alike → ⊥ = λ a. cc in
-        search (arith, s, all, apart, length-append)
+        search (arith, s, counted s.right p hear, all, apart)
 
-    pub right_settled : (v : Verdict) → c.wants ≡ Right → is_own_write p ≡ true → is_third c.right_heard p ≡ false →
-        IsVerdictAtEnds c.block c.held.first c.left_end c.held.second (Some p) v
-        → ComparerRepresents (heard_right (record c { wants = Done v }) p) (with_item Right (Some p) lists)
+    right_settled : (v : Verdict) → c.wants ≡ Right → is_own_write p ≡ true → is_third c.right.last p ≡ false
+        → IsVerdictAtEnds c.block c.held.first c.left_end c.held.second (Some p) v → ComparerRepresents
+        (record c { wants = Done v; right = with_heard c.right p }) (with_item Right (Some p) lists)
     right_settled v e own apart verdict =
-        let up = (rw own at (right_next e false (rw (own, apart)))).1 in
+        let up = rw own at (right_next e false (rw (own, apart))) in
         let done = settled (stage_of s e) (lists.right ++ p ∷ []) lists.right_ended (Some p) v verdict (λ e. cc) up in
-        search (arith, s, done, length-append)
+        search (s, counted s.right p hear, done)
 
-    pub right_begun : c.wants ≡ Right → is_own_write p ≡ true → is_third c.right_heard p ≡ false →
-        AlikeBlocks c.held.first c.held.second → EndAlike c.left_end (Some p)
-        → ComparerRepresents (heard_right (begun_block c) p) (with_item Right (Some p) lists)
+    right_begun : c.wants ≡ Right → is_own_write p ≡ true → is_third c.right.last p ≡ false
+        → AlikeBlocks c.held.first c.held.second → EndAlike c.left_end (Some p) → ComparerRepresents
+        (record c { held = nothing_held; block = c.block + 1; wants = Left; right = with_heard c.right p })
+        (with_item Right (Some p) lists)
     right_begun e own apart alike ends =
         let w = stage_of s e in
-        let next = rw own at (right_next e false (rw (own, apart))) in
         let begun = up_to_next c.left_end c.block (cut_for c.who lists.left) (cut_for c.who (lists.right ++ p ∷ []))
-        c.held.first c.held.second p next.1 alike ends in
-        search (arith, s, w, next, rw (← add-one c.block) at begun.1, w.left_end ∙ begun.0, length-append)
+        c.held.first c.held.second p (rw own at (right_next e false (rw (own, apart)))) alike ends in
+        search (arith, s, w, counted s.right p hear, rw (← add-one c.block) at begun.1, w.left_open ∙ begun.0)
+
+pub becomes : {c next : Comparison} {w : Wants} {item : Option Packet} → c.wants ≡ w → next.who ≡ c.who
+    → ((lists : Lists) → ComparerRepresents c lists → ComparerRepresents next (with_item w item lists))
+    → BecomesBy c item next
+becomes e who stands = record { same_who = who; stands = λ lists s. rw e (stands lists s) }
+
+-- a write ends the right block
+pub right_ended : {c next : Comparison} (p : Packet) → c.wants ≡ Right → hears c.who p ≡ true → is_own_write p ≡ true
+    → is_third c.right.last p ≡ false → EndsRight c (Some p) next
+    → BecomesBy c (Some p) (record next { right = with_heard next.right p })
+right_ended p e hear own apart (inl (v, verdict, is)) =
+    rw is (becomes e refl (λ lists s. right_settled s p hear v e own apart verdict))
+right_ended p e hear own apart (inr (alike, ends, is)) =
+    rw is (becomes e refl (λ lists s. right_begun s p hear e own apart alike ends))
+
+-- the end of the right list, which settles the verdict
+pub right_list_ended : {c next : Comparison} → c.wants ≡ Right → EndsRight c None next → BecomesBy c None next
+right_list_ended {c = c} e (inl (v, verdict, is)) = rw is (becomes e refl (λ lists s.
+    let w = stage_of s e in search (s, settled w lists.right true None v verdict (λ e. refl) w.up_to)))
+right_list_ended {c = c} e (inr (alike, ends, is)) = absurd (no_end_alike c.left_end ends)
 
 -- the number of a block is no larger than the number of packets
 pub block_given : {c : Comparison} {lists : Lists} → ComparerRepresents c lists → c.wants ≡ Right
-    → c.block ≤ c.right_given
-block_given {c = c} {lists = lists} s e =
-    let heard_here = heard c.who lists.right in
-    let whole = ap length (flat-cut (without_third_copies heard_here)) in
-    omega (
-      arith,
-      blocks_before c.block (cut_for c.who lists.left) (cut_for c.who lists.right)
-          (open_cut c.held.first c.left_end) (LastBlock c.held.second) (stage_of s e).up_to,
-      whole,
-      length-capped heard_here,
-      length-filter (hears c.who) lists.right,
-      count_by-le-length (hears c.who) lists.right,
-    )
-
--- while the left side is wanted, it is as if its list had ended here
-as_ended : {c : Comparison} {lists : Lists} → WantsLeft c lists
-    → AlikeUpTo c.block (cut_for c.who lists.left) (cut_for c.who lists.right) (open_cut c.held.first None)
-    (LastBlock c.held.second)
-as_ended w = rw w.none_yet w.up_to
-
--- the end of the left list
-pub left_ends : (c : Comparison) (lists : Lists) → c.wants ≡ Left → ComparerRepresents c lists
-    → ComparerRepresents (record c { left_end = None; wants = Right }) (with_item Left None lists)
-left_ends c lists e s = let w = stage_of s e in search (s, w, as_ended w)
-
--- the end of the right list, which settles the verdict
-pub right_ends : (c : Comparison) (lists : Lists) (v : Verdict) → c.wants ≡ Right
-    → IsVerdictAtEnds c.block c.held.first c.left_end c.held.second None v → ComparerRepresents c lists →
-    ComparerRepresents (record c { wants = Done v }) (with_item Right None lists)
-right_ends c lists v e verdict s =
-    let w = stage_of s e in search (s, settled w lists.right true None v verdict (λ e. refl) w.up_to)
+    → c.block ≤ c.right.given
+block_given {c = c} {lists = lists} s e = omega (
+  arith,
+  s.right.given,
+  up_to_fits c.block (cut_for c.who lists.left) (cut_for c.who lists.right) (open_cut c.held.first c.left_end)
+      (LastBlock c.held.second) (stage_of s e).up_to,
+  cut_fits c.who lists.right,
+)
 
 -- what is held is the two open blocks, and no block is longer than its list
 abbrev HeldFits : Comparison → Lists → Type 0
 HeldFits c lists = (length c.held.first + length c.held.second < 2 ^ 64)
     × (length c.held.first + length c.held.second ≡ most_held c.who lists)
 
-pub held_fits : (c : Comparison) (lists : Lists) → ((v : Verdict) → c.wants ≡ Done v → ⊥) → c.left_given < 2 ^ 32
-    → c.right_given < 2 ^ 32 → ComparerRepresents c lists → HeldFits c lists
+pub held_fits : (c : Comparison) (lists : Lists) → ((v : Verdict) → c.wants ≡ Done v → ⊥) → c.left.given < 2 ^ 32
+    → c.right.given < 2 ^ 32 → ComparerRepresents c lists → HeldFits c lists
 held_fits c lists going left right s = by_wants c.wants s.stage going
   where
-    held : (end : Option Packet) → length c.held.first + length c.held.second
-        ≡ open_blocks_len (open_cut c.held.first end) (LastBlock c.held.second)
-    held None = refl
-    held (Some write) = refl
+    held : (end : Option Packet) → (length c.held.first ≤ length (flat (open_cut c.held.first end)))
+        × (length c.held.first + length c.held.second ≡ open_blocks_len (open_cut c.held.first end) (LastBlock c.held.second))
+    held None = (omega arith, refl)
+    held (Some write) = (omega (arith, length-append c.held.first (write ∷ [])), refl)
 
-    fits : (end : Option Packet) → GoesOn c lists → AlikeUpTo c.block (cut_for c.who lists.left)
-        (cut_for c.who lists.right) (open_cut c.held.first end) (LastBlock c.held.second) → HeldFits c lists
-    fits end g up =
-        let behind = open_behind c.block (cut_for c.who lists.left) (cut_for c.who lists.right)
-        (open_cut c.held.first end) (LastBlock c.held.second) up in (omega arith, held end ∙ sym behind)
+    fits : (end : Option Packet) {ended : Bool} → HasNoVerdict c lists end ended → HeldFits c lists
+    fits end w =
+        let x = cut_for c.who lists.left in
+        let y = cut_for c.who lists.right in
+        let u = open_cut c.held.first end in
+        let few = up_to_fits c.block x y u (LastBlock c.held.second) w.up_to in
+        let all = open_behind c.block x y u (LastBlock c.held.second) w.up_to in (
+          omega (arith, few, held end, s.left.given, s.right.given, cut_fits c.who lists.left, cut_fits c.who lists.right),
+          (held end).1 ∙ sym all,
+        )
 
     by_wants : (w : Wants) → Stage w c lists → ((v : Verdict) → w ≡ Done v → ⊥) → HeldFits c lists
-    by_wants Left w going = fits None w.goes_on (as_ended w)
-    by_wants Right w going = fits c.left_end w.goes_on w.up_to
+    by_wants Left w going = fits None w
+    by_wants Right w going = fits c.left_end w
     by_wants (Done v) w going = absurd (going v refl)

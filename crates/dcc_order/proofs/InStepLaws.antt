@@ -6,17 +6,14 @@ use Rattle.std.specs.Option.{option_to_list}
 use Rattle.std.proofs.lemmas.Grind.{common_steps}
 use Rattle.std.proofs.lemmas.Option.{slice_get_within}
 use Rattle.dcc_packet.specs.declared.packet.Packet.{Packet}
-use Rattle.dcc_regs.specs.declared.register.Who.{Who}
 use Rattle.dcc_order.specs.declared.comparison.Comparison.{Comparison}
 use Rattle.dcc_order.specs.declared.wants.Wants.{Wants}
 use Rattle.dcc_order.specs.declared.wants.Wants.TheVariants.{Left, Right, Done}
 use Rattle.dcc_order.specs.Comparisons.{ComparerRepresents}
-use Rattle.dcc_order.specs.GivenLists.{Lists, no_lists, with_item, MayFollow, IsVerdictOfAll}
+use Rattle.dcc_order.specs.GivenLists.{Lists, no_lists, with_item, MayFollow}
 use Rattle.dcc_order.specs.InStep.{IsGivenPrefix, IsInStep, ends_wanted, BecomesBy, NothingGivenYet, OneMoreOfLeft}
 use Rattle.dcc_order.specs.InStep.{OneMoreOfRight, FewerRequestsAfterLeft, FewerRequestsAfterRight, PlacesAreCounted}
 use Rattle.dcc_order.specs.InStep.{VerdictIsOfBoth, VerdictIsOfTheGiven, NoMoreIsGiven}
-use Rattle.dcc_order.specs.declared.verdict.Verdict.{Verdict}
-use Rattle.dcc_order.specs.Verdicts.{IsVerdict}
 use Rattle.dcc_order.proofs.ComparisonLaws.{stage_of}
 
 -- the lists with one item more of the side that is wanted, whatever the item
@@ -72,7 +69,7 @@ one_more_of_left who left right c next item s is at becomes = record {
   who_is = becomes.same_who ∙ s.who_is;
   left_front =
       front_more item s.left_front (stage_of s.stands (sym is)).left_open
-      (at.is ∙ ap (slice_get left) s.stands.left_given);
+      (at.is ∙ ap (slice_get left) s.stands.left.given);
   right_front = s.right_front;
 }
 
@@ -85,7 +82,7 @@ one_more_of_right who left right c next item s is at becomes = record {
   left_front = s.left_front;
   right_front =
       front_more item s.right_front (stage_of s.stands (sym is)).right_open
-      (at.is ∙ ap (slice_get right) s.stands.right_given);
+      (at.is ∙ ap (slice_get right) s.stands.right.given);
 }
 
 few : {whole given : List Packet} {ended : Bool} (n : ℕ) → IsGivenPrefix whole given ended → n ≡ length given
@@ -95,7 +92,7 @@ few {given = given} n f is = omega (arith, ap length f.parts, length-append give
 pub no_more_is_given : NoMoreIsGiven
 unfolding IsInStep
 no_more_is_given who left right c s =
-    (few c.left_given s.left_front s.stands.left_given, few c.right_given s.right_front s.stands.right_given)
+    (few c.left.given s.left_front s.stands.left.given, few c.right.given s.right_front s.stands.right.given)
 
 -- no side is wanted whose end was given
 fewer_ends : (w v : Wants) (item : Option Packet) {c : Comparison} (lists : Lists)
@@ -145,29 +142,9 @@ pub verdict_is_of_the_given : VerdictIsOfTheGiven
 unfolding IsInStep
 verdict_is_of_the_given who left right c verdict given s is counted =
     rw (
-      taken given.0 s.left_front (ap (λ (p : ℕ × ℕ). p.0) counted ∙ s.stands.left_given),
-      taken given.1 s.right_front (ap (λ (p : ℕ × ℕ). p.1) counted ∙ s.stands.right_given),
+      taken given.0 s.left_front (ap (λ (p : ℕ × ℕ). p.0) counted ∙ s.stands.left.given),
+      taken given.1 s.right_front (ap (λ (p : ℕ × ℕ). p.1) counted ∙ s.stands.right.given),
       sym s.who_is,
     )
     ((stage_of s.stands (sym is)).of_all [] [] (nothing_follows s.lists.left_ended)
     (nothing_follows s.lists.right_ended))
-
--- both lists, as far as they were given: what is left of each, and whether its end was given
-pub record Giving (who : Who) (left right left_rest right_rest : List Packet) (left_ended right_ended : Bool)
-    (c : Comparison) (lists : Lists) : Type 0 where
-  pub stands : ComparerRepresents c lists
-  pub who_is : c.who ≡ who
-  pub left_parts : left ≡ lists.left ++ left_rest
-  pub right_parts : right ≡ lists.right ++ right_rest
-  pub left_may : MayFollow lists.left_ended left_rest
-  pub right_may : MayFollow lists.right_ended right_rest
-  pub left_is : lists.left_ended ≡ left_ended
-  pub right_is : lists.right_ended ≡ right_ended
-
--- the verdict of all that may follow is that of the two lists
-pub verdict_of_both : {who : Who} {left right left_rest right_rest : List Packet} {left_ended right_ended : Bool}
-    {c : Comparison} {lists : Lists} (v : Verdict)
-    → Giving who left right left_rest right_rest left_ended right_ended c lists → IsVerdictOfAll c.who lists v
-    → IsVerdict who left right v
-verdict_of_both {left_rest = left_rest} {right_rest = right_rest} v g all =
-    rw (← g.who_is, g.left_parts, g.right_parts) (all left_rest right_rest g.left_may g.right_may)

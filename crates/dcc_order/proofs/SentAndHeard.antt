@@ -49,7 +49,7 @@ sent_packet_is_done p timing halves who who' start now fits are heard =
     let all : ArePackets (p ∷ []) (halves ++ []) =
     subst (ArePackets (p ∷ [])) (alone (spelled_out one) ∙ ap (λ hs. hs ++ []) (sym are))
     (sent_packets_are_heard (one ∷ [])) in
-    holds who start (halves ++ []) who' now (p ∷ []) all heard
+    holds (p ∷ []) all heard
 
 last_seen-one : (first : Seen) (more : List (ℕ × Seen)) (at : ℕ × Seen) → last_seen first (more ++ at ∷ []) ≡ at.1
 last_seen-one first [] at = refl

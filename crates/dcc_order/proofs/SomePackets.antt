@@ -9,7 +9,7 @@ use Rattle.dcc_wire.specs.declared.seen.Fault.TheVariants.{BadHalf, SplitBit, To
 use Rattle.dcc_wire.specs.declared.seen.Seen.{Seen}
 use Rattle.dcc_wire.specs.declared.seen.Seen.TheVariants.{Nothing, Packet as PacketSeen, Refused}
 use Rattle.dcc_wire.specs.Frames.{IsFrame}
-use Rattle.dcc_wire.specs.Framing.{seen, starts}
+use Rattle.dcc_wire.specs.Framing.{starts}
 use Rattle.dcc_wire.specs.Half.{class_of}
 use Rattle.dcc_wire.specs.Outcomes.{bits_in, bytes_in, body_outcome, by_halves, outcome_of}
 use Rattle.dcc_wire.specs.Inner.OutcomesAt.{outcome_at, outcomes_at}

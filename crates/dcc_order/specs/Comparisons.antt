@@ -1,10 +1,12 @@
 -- The state of a comparison of two lists, and the lists that this state represents.
-use Rattle.std.specs.Prelude.{ℕ, zero, suc, ◌≡◌, ◌≤◌, ◌⊎◌, true, false, List, [], Option, Some, None, is_none, length}
-use Rattle.std.specs.Prelude.{fold}
+use Rattle.std.specs.Prelude.{ℕ, zero, suc, ◌+◌, ◌≡◌, ◌⊎◌, Bool, true, false, List, [], Option, Some, None, is_none}
+use Rattle.std.specs.Prelude.{fold, length}
 use Rattle.dcc_packet.specs.declared.packet.Packet.{Packet}
+use Rattle.dcc_regs.specs.declared.register.Who.{Who}
 use Rattle.dcc_regs.specs.Heard.{heard}
 use Rattle.dcc_regs.specs.Result.{is_repeated}
 use Rattle.dcc_order.specs.declared.comparison.Comparison.{Comparison}
+use Rattle.dcc_order.specs.declared.given_list.GivenList.{GivenList}
 use Rattle.dcc_order.specs.declared.last_heard.LastHeard.{LastHeard}
 use Rattle.dcc_order.specs.declared.verdict.Verdict.{Verdict}
 use Rattle.dcc_order.specs.declared.verdict.Verdict.TheVariants.{Alike, Members, Order}
@@ -27,6 +29,11 @@ heard_next before p = record { packet = Some p; is_second = is_repeated before.p
 -- packet equals the last packet
 abbrev pub last_heard : List Packet → LastHeard
 last_heard packets = fold heard_next nothing_heard packets
+
+-- the `GivenList` of a list after one more packet `p`, which the decoder hears. `list` is the
+-- `GivenList` without `p`.
+abbrev pub with_heard : GivenList → Packet → GivenList
+with_heard list p = record { given = list.given + 1; last = heard_next list.last p }
 
 -- the cut list that begins with `block`. If `write` is a packet, it ends `block`, and the cut list
 -- `rest` follows. If `write` is `None`, `block` is the last block.
@@ -68,33 +75,19 @@ AlikeUpTo (suc k) (Block left write x) (Block right other y) u w =
 AlikeUpTo (suc k) (LastBlock left) y u w = ⊥
 AlikeUpTo (suc k) (Block left write x) (LastBlock right) u w = ⊥
 
--- for each of the two `lists`, the comparison `c` stores the last packet that its decoder heard.
--- The two blocks that `c` stores are not longer than the lists.
-pub record GoesOn (c : Comparison) (lists : Lists) : Type 0 where
-  pub left_heard : c.left_heard ≡ last_heard (heard c.who lists.left)
-  pub right_heard : c.right_heard ≡ last_heard (heard c.who lists.right)
-  pub first_fits : length c.held.first ≤ length lists.left
-  pub second_fits : length c.held.second ≤ length lists.right
+-- `list` has the number of `packets` and the last packet that decoder `who` heard of them
+pub record HasCounted (who : Who) (list : GivenList) (packets : List Packet) : Type 0 where
+  pub given : list.given ≡ length packets
+  pub last : list.last ≡ last_heard (heard who packets)
 
--- the comparison `c` waits for a packet of the left list. Neither list has ended, and the blocks
--- before block `c.block` are alike. The comparison stores the last block of the left list. The last
--- block of the right list is empty.
-pub record WantsLeft (c : Comparison) (lists : Lists) : Type 0 where
-  pub goes_on : GoesOn c lists
-  pub left_open : lists.left_ended ≡ false
+-- the comparison `c` of `lists` has no verdict. The blocks before block `c.block` are alike. The
+-- comparison stores block `c.block` of the left list, which `left_end` ends if it is a write, and
+-- the last block of the right list. `left_ended` is true if the left list has ended.
+pub record HasNoVerdict (c : Comparison) (lists : Lists) (left_end : Option Packet) (left_ended : Bool) : Type 0 where
+  pub left_open : lists.left_ended ≡ left_ended
   pub right_open : lists.right_ended ≡ false
-  pub up_to : AlikeUpTo c.block (cut_for c.who lists.left) (cut_for c.who lists.right) (LastBlock c.held.first)
-      (LastBlock [])
-  pub none_yet : c.held.second ≡ []
-
--- the comparison `c` waits for a packet of the right list. A write or the end of the left list has
--- ended the block of the left list. The blocks before block `c.block` are alike.
-pub record WantsRight (c : Comparison) (lists : Lists) : Type 0 where
-  pub goes_on : GoesOn c lists
-  pub left_end : lists.left_ended ≡ is_none c.left_end
-  pub right_open : lists.right_ended ≡ false
-  pub up_to : AlikeUpTo c.block (cut_for c.who lists.left) (cut_for c.who lists.right)
-      (open_cut c.held.first c.left_end) (LastBlock c.held.second)
+  pub up_to : AlikeUpTo c.block (cut_for c.who lists.left) (cut_for c.who lists.right) (open_cut c.held.first left_end)
+      (LastBlock c.held.second)
 
 -- `verdict` is the verdict on every two lists that begin with the prefixes in `lists`. If the
 -- verdict is `Alike`, both lists have ended.
@@ -102,13 +95,15 @@ pub record Settled (c : Comparison) (lists : Lists) (verdict : Verdict) : Type 0
   pub of_all : IsVerdictOfAll c.who lists verdict
   pub both_ended : verdict ≡ Alike → (lists.left_ended ≡ true) × (lists.right_ended ≡ true)
 
+-- the comparison `c` of `lists` waits for a packet of a list, or has a verdict. If it waits for the
+-- right list, a write or the end of the left list has ended the left block.
 abbrev pub Stage : Wants → Comparison → Lists → Type 0
-Stage Left c lists = WantsLeft c lists
-Stage Right c lists = WantsRight c lists
+Stage Left c lists = HasNoVerdict c lists None false
+Stage Right c lists = HasNoVerdict c lists c.left_end (is_none c.left_end)
 Stage (Done verdict) c lists = Settled c lists verdict
 
 -- the comparison `c` represents `lists`: `c` is the state of a comparer that was given these lists
 pub record ComparerRepresents (c : Comparison) (lists : Lists) : Type 0 where
-  pub left_given : c.left_given ≡ length lists.left
-  pub right_given : c.right_given ≡ length lists.right
+  pub left : HasCounted c.who c.left lists.left
+  pub right : HasCounted c.who c.right lists.right
   pub stage : Stage c.wants c lists

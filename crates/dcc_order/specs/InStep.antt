@@ -41,7 +41,7 @@ ends_wanted (Done verdict) = 0
 -- an upper bound for the number of packets and ends of the lists `left` and `right` that the
 -- comparer `c` still gets
 abbrev pub requests_bound : List Packet → List Packet → Comparison → ℕ
-requests_bound left right c = 2 * (length left - c.left_given + (length right - c.right_given)) + ends_wanted c.wants
+requests_bound left right c = 2 * (length left - c.left.given + (length right - c.right.given)) + ends_wanted c.wants
 
 -- `item` is the packet at `place` of the list `packets`. If the list has no such place, `item` is
 -- `None`.
@@ -62,28 +62,28 @@ NothingGivenYet = (who : Who) (left right : List Packet) (c : Comparison) → Co
 -- step
 abbrev pub OneMoreOfLeft : Type 0
 OneMoreOfLeft = (who : Who) (left right : List Packet) (c next : Comparison) (item : Option Packet)
-    → IsInStep who left right c → Left ≡ c.wants → IsAt left c.left_given item → BecomesBy c item next
+    → IsInStep who left right c → Left ≡ c.wants → IsAt left c.left.given item → BecomesBy c item next
     → IsInStep who left right next
 
 -- a comparer in step that gets the next packet of the right list, or the end of this list, stays in
 -- step
 abbrev pub OneMoreOfRight : Type 0
 OneMoreOfRight = (who : Who) (left right : List Packet) (c next : Comparison) (item : Option Packet)
-    → IsInStep who left right c → Right ≡ c.wants → IsAt right c.right_given item → BecomesBy c item next
+    → IsInStep who left right c → Right ≡ c.wants → IsAt right c.right.given item → BecomesBy c item next
     → IsInStep who left right next
 
 -- the number `requests_bound` falls if a comparer in step gets the next packet of the left list, or
 -- the end of this list
 abbrev pub FewerRequestsAfterLeft : Type 0
 FewerRequestsAfterLeft = (who : Who) (left right : List Packet) (c next : Comparison) (item : Option Packet)
-    → IsInStep who left right c → Left ≡ c.wants → IsAt left c.left_given item → BecomesBy c item next
+    → IsInStep who left right c → Left ≡ c.wants → IsAt left c.left.given item → BecomesBy c item next
     → requests_bound left right next < requests_bound left right c
 
 -- the number `requests_bound` falls if a comparer in step gets the next packet of the right list,
 -- or the end of this list
 abbrev pub FewerRequestsAfterRight : Type 0
 FewerRequestsAfterRight = (who : Who) (left right : List Packet) (c next : Comparison) (item : Option Packet)
-    → IsInStep who left right c → Right ≡ c.wants → IsAt right c.right_given item → BecomesBy c item next
+    → IsInStep who left right c → Right ≡ c.wants → IsAt right c.right.given item → BecomesBy c item next
     → requests_bound left right next < requests_bound left right c
 
 -- in a list of fewer than 2^32 packets, the place of each packet is below 2^32 - 1. So a comparer
@@ -101,10 +101,10 @@ VerdictIsOfBoth = (who : Who) (left right : List Packet) (c : Comparison) (verdi
 -- the comparer has got
 abbrev pub VerdictIsOfTheGiven : Type 0
 VerdictIsOfTheGiven = (who : Who) (left right : List Packet) (c : Comparison) (verdict : Verdict) (given : ℕ × ℕ)
-    → IsInStep who left right c → Done verdict ≡ c.wants → given ≡ (c.left_given, c.right_given)
+    → IsInStep who left right c → Done verdict ≡ c.wants → given ≡ (c.left.given, c.right.given)
     → IsVerdict who (take given.0 left) (take given.1 right) verdict
 
 -- a comparer in step has got at most as many packets of each list as the list has
 abbrev pub NoMoreIsGiven : Type 0
 NoMoreIsGiven = (who : Who) (left right : List Packet) (c : Comparison) → IsInStep who left right c
-    → (c.left_given ≤ length left) × (c.right_given ≤ length right)
+    → (c.left.given ≤ length left) × (c.right.given ≤ length right)

@@ -83,8 +83,8 @@ impl Comparer {
     /// and the caller can pass the item again. The function does not allocate for an end, or for a
     /// packet that the decoder does not hear.
     pub fn give(&mut self, item: Option<Packet>) -> Result<(), NoMemory>
-        requires left { self.old.wants ≡ Wants.Left → IfSome item (λ _. self.old.left_given < 2 ^ 32 - 1) }
-        requires right { self.old.wants ≡ Wants.Right → IfSome item (λ _. self.old.right_given < 2 ^ 32 - 1) }
+        requires left { self.old.wants ≡ Wants.Left → IfSome item (λ _. self.old.left.given < 2 ^ 32 - 1) }
+        requires right { self.old.wants ≡ Wants.Right → IfSome item (λ _. self.old.right.given < 2 ^ 32 - 1) }
         ensures stands { OnOk result
             ((lists : Lists) → ComparerRepresents self.old lists
             → ComparerRepresents self.new (with_item self.old.wants item lists)) }
@@ -102,11 +102,11 @@ impl Comparer {
     /// Returns two numbers: how many packets of the first list, and how many packets of the second
     /// list, the comparer has got.
     pub fn given(&self) -> (u32, u32)
-        ensures is { result ≡ (self.now.left_given, self.now.right_given) }
+        ensures is { result ≡ (self.now.left.given, self.now.right.given) }
         ensures given { (lists : Lists) → ComparerRepresents self.now lists
             → result ≡ (length lists.left, length lists.right) }
     {
-        (self.comparison.left_given, self.comparison.right_given)
+        (self.comparison.left.given, self.comparison.right.given)
     }
 
     /// Returns the number of packets that the comparer stores. Count the own writes that have ended

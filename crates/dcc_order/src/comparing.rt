@@ -2,10 +2,12 @@
 
 ghost use Rattle.std.specs.Prelude.{◌≡◌, ◌↔◌, ◌<◌, ◌^◌, IfOk, length};
 ghost use Rattle.dcc_order.specs.AlikeLists.{AlikeFor};
+ghost use Rattle.dcc_order.specs.InStep.{IsAt};
 ghost use Rattle.dcc_order.specs.Laws.{LeaveTheSame};
 ghost use Rattle.dcc_order.specs.Verdicts.{IsVerdict};
 
 use crate::comparer::Comparer;
+use crate::laws;
 use crate::no_memory::NoMemory;
 use crate::verdict::Verdict;
 use crate::wants::Wants;
@@ -34,34 +36,20 @@ pub fn compare(
     ensures alike_is { IfOk result (λ v. (v ≡ Verdict.Alike) ↔ AlikeFor who left.now right.now) }
     ensures alike { result ≡ Ok Verdict.Alike → LeaveTheSame who left.now right.now }
 {
-    let mut left_rest = left;
-    let mut right_rest = right;
-    let mut left_ended = false;
-    let mut right_ended = false;
+    laws::lists_in_step();
     let mut comparer = Comparer::new(alloc, who);
     'items: loop {
         match comparer.wants() {
-            Wants::Left => match left_rest {
-                [packet, later @ ..] => {
-                    comparer.give(Some(*packet))?;
-                    left_rest = later;
-                }
-                [] => {
-                    comparer.give(None)?;
-                    left_ended = true;
-                }
-            },
-            Wants::Right => match right_rest {
-                [packet, later @ ..] => {
-                    comparer.give(Some(*packet))?;
-                    right_rest = later;
-                }
-                [] => {
-                    comparer.give(None)?;
-                    right_ended = true;
-                }
-            },
+            Wants::Left => comparer.give(item_at(left, comparer.given().0))?,
+            Wants::Right => comparer.give(item_at(right, comparer.given().1))?,
             Wants::Done(verdict) => return Ok(verdict),
         }
     }
+}
+
+/// Returns the packet at `place`. Returns `None` at the end of the list.
+fn item_at(packets: &[Packet], place: u32) -> Option<Packet>
+    ensures { IsAt packets.now place result }
+{
+    packets.get(place as usize).copied()
 }

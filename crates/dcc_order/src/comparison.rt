@@ -1,16 +1,16 @@
 //! The state of a comparison of two lists.
 
-ghost use Rattle.std.specs.Prelude.{◌≡◌, ◌<◌, ◌+◌, ◌-◌, ◌^◌, ◌++◌, ◌∷◌, [], true, false, None, OnOk, OnErr, IfSome};
-ghost use Rattle.std.specs.Prelude.{IfNone, MatchOption};
+ghost use Rattle.std.specs.Prelude.{◌≡◌, ◌<◌, ◌-◌, ◌^◌, false, None, Some, OnOk, OnErr, IfSome, IfNone, MatchOption};
 ghost use Rattle.dcc_regs.specs.Heard.{hears as is_heard_by};
 ghost use Rattle.dcc_order.specs.AlikeLists.{AlikeBlocks};
-ghost use Rattle.dcc_order.specs.Comparisons.{ComparerRepresents, heard_next, BlocksDiffer, EndAlike, IsVerdictAtEnds};
-ghost use Rattle.dcc_order.specs.Inner.ComparisonSteps.{begun_block, closed_left, joined_left, ClosesRight, JoinsRight};
+ghost use Rattle.dcc_order.specs.Comparisons.{ComparerRepresents, BlocksDiffer, EndAlike, IsVerdictAtEnds};
+ghost use Rattle.dcc_order.specs.InStep.{BecomesBy};
+ghost use Rattle.dcc_order.specs.Inner.ComparisonSteps.{EndsRight};
 ghost use Rattle.dcc_order.specs.declared.verdict.Verdict.{Verdict as VerdictOf};
-ghost use Rattle.dcc_order.specs.GivenLists.{Lists, no_lists, with_item, most_held};
+ghost use Rattle.dcc_order.specs.GivenLists.{Lists, no_lists, most_held};
 
+use crate::given_list::GivenList;
 use crate::held_blocks::HeldBlocks;
-use crate::last_heard::LastHeard;
 use crate::verdict::Verdict;
 use crate::wants::Wants;
 use dcc_packet::Packet;
@@ -25,10 +25,8 @@ pub struct Comparison {
     pub who: Who,
     pub wants: Wants,
     pub block: u32,
-    pub left_given: u32,
-    pub right_given: u32,
-    pub left_heard: LastHeard,
-    pub right_heard: LastHeard,
+    pub left: GivenList,
+    pub right: GivenList,
     /// The write that ended the left block. If the comparison waits for the right list, `None`
     /// means that the left list has ended.
     pub left_end: Option<Packet>,
@@ -45,10 +43,8 @@ impl Comparison {
             who,
             wants: Wants::Left,
             block: 0,
-            left_given: 0,
-            right_given: 0,
-            left_heard: LastHeard::nothing(),
-            right_heard: LastHeard::nothing(),
+            left: GivenList::empty(),
+            right: GivenList::empty(),
             left_end: None,
             held: HeldBlocks::new(alloc),
         }
@@ -60,21 +56,18 @@ impl Comparison {
     /// unchanged.
     pub fn give(&mut self, item: Option<Packet>) -> Result<(), AllocError>
         requires reached { (lists : Lists) × ComparerRepresents self.old lists }
-        requires left { self.old.wants ≡ Wants.Left → IfSome item (λ _. self.old.left_given < 2 ^ 32 - 1) }
-        requires right { self.old.wants ≡ Wants.Right → IfSome item (λ _. self.old.right_given < 2 ^ 32 - 1) }
-        ensures stands { OnOk result
-            ((lists : Lists) → ComparerRepresents self.old lists
-            → ComparerRepresents self.new (with_item self.old.wants item lists)) }
-        ensures who { self.new.who ≡ self.old.who }
+        requires left { self.old.wants ≡ Wants.Left → IfSome item (λ _. self.old.left.given < 2 ^ 32 - 1) }
+        requires right { self.old.wants ≡ Wants.Right → IfSome item (λ _. self.old.right.given < 2 ^ 32 - 1) }
+        ensures becomes { OnOk result (BecomesBy self.old item self.new) }
         ensures unchanged { OnErr result (self.new ≡ self.old) }
         ensures end { item ≡ None → result ≡ Ok tt }
         ensures unheard { IfSome item (λ p. is_heard_by self.old.who p ≡ false → result ≡ Ok tt) }
         ensures done { (v : VerdictOf) → self.old.wants ≡ Wants.Done v → (result ≡ Ok tt) × (self.new ≡ self.old) }
     {
         match (self.wants, item) {
-            (Wants::Left, None) => self.end_left(),
+            (Wants::Left, None) => self.end_left(None),
             (Wants::Left, Some(packet)) => self.give_left(&packet)?,
-            (Wants::Right, None) => self.end_right(),
+            (Wants::Right, None) => self.end_right(&None),
             (Wants::Right, Some(packet)) => self.give_right(&packet)?,
             (Wants::Done(_), _) => (),
         }
@@ -88,183 +81,81 @@ impl Comparison {
             → result ≡ most_held self.now.who lists }
     {
         // no block is longer than its list, so these two numbers bound the lengths of the blocks
-        let _left = self.left_given;
-        let _right = self.right_given;
+        let _left = self.left.given;
+        let _right = self.right.given;
         self.held.len()
-    }
-
-    /// Takes the end of the left list. The comparison then waits for the right list.
-    fn end_left(&mut self)
-        requires { self.old.wants ≡ Wants.Left }
-        ensures stands { (lists : Lists) → ComparerRepresents self.old lists
-            → ComparerRepresents self.new (record lists { left_ended = true }) }
-        ensures who { self.new.who ≡ self.old.who }
-    {
-        self.left_end = None;
-        self.wants = Wants::Right;
     }
 
     /// Takes the next packet of the left list.
     fn give_left(&mut self, packet: &Packet) -> Result<(), AllocError>
         requires wants { self.old.wants ≡ Wants.Left }
-        requires few { self.old.left_given < 2 ^ 32 - 1 }
-        ensures stands { OnOk result
-            ((lists : Lists) → ComparerRepresents self.old lists
-            → ComparerRepresents self.new (record lists { left = lists.left ++ packet.now ∷ [] })) }
-        ensures err { OnErr result (self.new ≡ self.old) }
+        requires few { self.old.left.given < 2 ^ 32 - 1 }
+        ensures becomes { OnOk result (BecomesBy self.old (Some packet.now) self.new) }
+        ensures unchanged { OnErr result (self.new ≡ self.old) }
         ensures unheard { is_heard_by self.old.who packet.now ≡ false → result ≡ Ok tt }
-        ensures who { self.new.who ≡ self.old.who }
     {
         if !hears(self.who, packet) {
-            self.pass_left();
+            self.left.given += 1;
             return Ok(());
         }
         if !is_own_write(packet) {
-            self.join_left(packet)?;
-            return Ok(());
+            self.held.push_first(packet)?;
+        } else if !self.left.last.was_twice(packet) {
+            self.end_left(Some(*packet));
         }
-        if self.left_heard.was_twice(packet) {
-            self.leave_out_left(packet);
-            return Ok(());
-        }
-        self.close_left(packet);
+        self.left.hear(packet);
         Ok(())
     }
 
-    /// Counts a packet of the left list that the decoder does not hear.
-    fn pass_left(&mut self)
-        requires { self.old.left_given < 2 ^ 32 - 1 }
-        ensures { self.new ≡ record self.old { left_given = self.old.left_given + 1 } }
+    /// Ends the left block, with a write or with the end of the left list. The comparison then
+    /// waits for the right list.
+    fn end_left(&mut self, end: Option<Packet>)
+        ensures { self.new ≡ record self.old { left_end = end; wants = Wants.Right } }
     {
-        self.left_given += 1;
-    }
-
-    /// Counts a write of the left list that follows two copies of itself.
-    fn leave_out_left(&mut self, packet: &Packet)
-        requires { self.old.left_given < 2 ^ 32 - 1 }
-        ensures { self.new ≡ record self.old
-            { left_given = self.old.left_given + 1; left_heard = heard_next self.old.left_heard packet.now } }
-    {
-        self.left_heard = self.left_heard.and(packet);
-        self.left_given += 1;
-    }
-
-    /// Adds a packet to the left block.
-    fn join_left(&mut self, packet: &Packet) -> Result<(), AllocError>
-        requires { self.old.left_given < 2 ^ 32 - 1 }
-        ensures ok { OnOk result (self.new ≡ joined_left self.old packet.now) }
-        ensures err { OnErr result (self.new ≡ self.old) }
-    {
-        self.held.push_first(packet)?;
-        self.leave_out_left(packet);
-        Ok(())
-    }
-
-    /// Ends the left block with a write. The comparison then waits for the right list.
-    fn close_left(&mut self, packet: &Packet)
-        requires { self.old.left_given < 2 ^ 32 - 1 }
-        ensures { self.new ≡ closed_left self.old packet.now }
-    {
-        self.left_end = Some(*packet);
+        self.left_end = end;
         self.wants = Wants::Right;
-        self.leave_out_left(packet);
     }
 
-    /// Takes the end of the right list, which decides the verdict.
-    fn end_right(&mut self)
-        requires { self.old.wants ≡ Wants.Right }
-        ensures stands { (lists : Lists) → ComparerRepresents self.old lists
-            → ComparerRepresents self.new (record lists { right_ended = true }) }
-        ensures who { self.new.who ≡ self.old.who }
-    {
-        if let Some(verdict) = self.verdict_at(&None) {
-            self.wants = Wants::Done(verdict);
-        }
-    }
-
-    /// Takes the next packet of the right list.
+    /// Takes the next packet of the right list. If the packet belongs to the right block and the
+    /// left block does not contain it, the verdict is `Members`, and no further packet can change
+    /// it.
     fn give_right(&mut self, packet: &Packet) -> Result<(), AllocError>
         requires wants { self.old.wants ≡ Wants.Right }
-        requires few { self.old.right_given < 2 ^ 32 - 1 }
+        requires few { self.old.right.given < 2 ^ 32 - 1 }
         requires numbered { self.old.block < 2 ^ 32 - 1 }
-        ensures stands { OnOk result
-            ((lists : Lists) → ComparerRepresents self.old lists
-            → ComparerRepresents self.new (record lists { right = lists.right ++ packet.now ∷ [] })) }
-        ensures err { OnErr result (self.new ≡ self.old) }
+        ensures becomes { OnOk result (BecomesBy self.old (Some packet.now) self.new) }
+        ensures unchanged { OnErr result (self.new ≡ self.old) }
         ensures unheard { is_heard_by self.old.who packet.now ≡ false → result ≡ Ok tt }
-        ensures who { self.new.who ≡ self.old.who }
     {
         if !hears(self.who, packet) {
-            self.pass_right();
+            self.right.given += 1;
             return Ok(());
         }
         if !is_own_write(packet) {
-            self.join_right(packet)?;
-            return Ok(());
+            if !self.held.push_second(packet)? {
+                self.wants = Wants::Done(Verdict::Members(self.block));
+            }
+        } else if !self.right.last.was_twice(packet) {
+            self.end_right(&Some(*packet));
         }
-        if self.right_heard.was_twice(packet) {
-            self.leave_out_right(packet);
-            return Ok(());
-        }
-        self.close_right(packet);
+        self.right.hear(packet);
         Ok(())
     }
 
-    /// Counts a packet of the right list that the decoder does not hear.
-    fn pass_right(&mut self)
-        requires { self.old.right_given < 2 ^ 32 - 1 }
-        ensures { self.new ≡ record self.old { right_given = self.old.right_given + 1 } }
+    /// Ends the right block, with the write `end` or with the end of the right list, and compares
+    /// the two blocks. If their ends are alike too, the next block of both lists begins.
+    fn end_right(&mut self, end: &Option<Packet>)
+        requires numbered { IfSome end.now (λ _. self.old.block < 2 ^ 32 - 1) }
+        ensures { EndsRight self.old end.now self.new }
     {
-        self.right_given += 1;
-    }
-
-    /// Counts a write of the right list that follows two copies of itself.
-    fn leave_out_right(&mut self, packet: &Packet)
-        requires { self.old.right_given < 2 ^ 32 - 1 }
-        ensures { self.new ≡ record self.old
-            { right_given = self.old.right_given + 1; right_heard = heard_next self.old.right_heard packet.now } }
-    {
-        self.right_heard = self.right_heard.and(packet);
-        self.right_given += 1;
-    }
-
-    /// Adds a packet to the right block. If the left block does not contain the packet, the verdict
-    /// is `Members`, and no further packet can change it.
-    fn join_right(&mut self, packet: &Packet) -> Result<(), AllocError>
-        requires { self.old.right_given < 2 ^ 32 - 1 }
-        ensures ok { OnOk result (JoinsRight self.old packet.now self.new) }
-        ensures err { OnErr result (self.new ≡ self.old) }
-    {
-        let known = self.held.push_second(packet)?;
-        if !known {
-            self.wants = Wants::Done(Verdict::Members(self.block));
-        }
-        self.leave_out_right(packet);
-        Ok(())
-    }
-
-    /// Ends the right block with a write, and compares the two blocks.
-    fn close_right(&mut self, packet: &Packet)
-        requires few { self.old.right_given < 2 ^ 32 - 1 }
-        requires numbered { self.old.block < 2 ^ 32 - 1 }
-        ensures { ClosesRight self.old packet.now self.new }
-    {
-        match self.verdict_at(&Some(*packet)) {
+        match self.verdict_at(end) {
             Some(verdict) => self.wants = Wants::Done(verdict),
-            None => self.begin_block(),
+            None => {
+                self.held.clear();
+                self.block += 1;
+                self.wants = Wants::Left;
+            }
         }
-        self.leave_out_right(packet);
-    }
-
-    /// Begins the next block of both lists.
-    fn begin_block(&mut self)
-        requires { self.old.block < 2 ^ 32 - 1 }
-        ensures { self.new ≡ begun_block self.old }
-    {
-        self.held.clear();
-        self.block += 1;
-        self.left_end = None;
-        self.wants = Wants::Left;
     }
 
     /// Returns the verdict after the right block ended with `right_end`, which is `None` at the end

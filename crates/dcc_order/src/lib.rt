@@ -8,6 +8,7 @@ mod comparing;
 mod comparison;
 mod fleet;
 mod frame_number;
+mod given_list;
 mod hearing;
 mod held_blocks;
 mod last_heard;

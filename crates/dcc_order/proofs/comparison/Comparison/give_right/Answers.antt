@@ -1,19 +1,22 @@
-use Rattle.std.proofs.Common.{inl, inr}
-use Rattle.dcc_order.proofs.ComparisonLaws.{right_joined, right_foreign, right_left_out, right_settled, right_begun}
+use Rattle.std.proofs.Common.{refl}
+use Rattle.dcc_order.proofs.ComparisonLaws.{becomes, right_joined, right_foreign, right_left_out, right_ended}
 use Rattle.dcc_order.proofs.comparison.Comparison.give_right.Goals as goal
+use Rattle.dcc_order.proofs.comparison.Comparison.give_right.Goals.{then-not-is_own_write+in_ok-push_second+then-not-branch}
+use Rattle.dcc_order.proofs.comparison.Comparison.give_right.Goals.{then-not-is_own_write+in_ok-push_second+else-not-branch}
+use Rattle.dcc_order.proofs.comparison.Comparison.give_right.Goals.{else-not-is_own_write+then-not-was_twice}
+use Rattle.dcc_order.proofs.comparison.Comparison.give_right.Goals.{else-not-is_own_write+else-not-was_twice}
 
-pub returns-then-not-is_own_write-clause-stands : goal.returns-then-not-is_own_write-clause-stands
-returns-then-not-is_own_write-clause-stands c = λ lists s. elim c.in_ok-join_right.ensures.ok [
-  | inl is ↦ rw is (right_joined s c.args.packet.now (cc) c.requires.wants (cc))
-  | inr (none, is) ↦ rw is (right_foreign s c.args.packet.now (cc) c.requires.wants (cc) none)
-]
-
-pub returns-then-was_twice-clause-stands : goal.returns-then-was_twice-clause-stands
-returns-then-was_twice-clause-stands c = λ lists s. rw c.leave_out_right.ensures
-    (right_left_out s c.args.packet.now (cc) c.requires.wants (cc) (cc))
-
-pub returns-clause-stands : goal.returns-clause-stands
-returns-clause-stands c = λ lists s. elim c.close_right.ensures [
-  | inl (v, verdict, is) ↦ rw is (right_settled s c.args.packet.now (cc) v c.requires.wants (cc) (cc) verdict)
-  | inr (alike, ends, is) ↦ rw is (right_begun s c.args.packet.now (cc) c.requires.wants (cc) (cc) alike ends)
-]
+pub returns-clause-becomes : goal.returns-clause-becomes
+returns-clause-becomes c = rw c.hear.ensures (elim c.if-not-is_own_write.branch [
+  | then-not-is_own_write+in_ok-push_second+then-not-branch w ↦
+      let foreign = w.push_second.ensures.foreign (cc) in
+      rw (w.self-is, foreign.1) (becomes c.requires.wants refl
+      (λ lists s. right_foreign s c.args.packet.now (cc) c.requires.wants (cc) foreign.0))
+  | then-not-is_own_write+in_ok-push_second+else-not-branch w ↦
+      rw (w.self-is, w.push_second.ensures.known (cc)) (becomes c.requires.wants refl
+      (λ lists s. right_joined s c.args.packet.now (cc) c.requires.wants (cc)))
+  | else-not-is_own_write+then-not-was_twice w ↦
+      rw w.self-is (right_ended c.args.packet.now c.requires.wants (cc) (cc) (cc) w.end_right.ensures)
+  | else-not-is_own_write+else-not-was_twice w ↦ rw w.self-is (becomes c.requires.wants refl
+      (λ lists s. right_left_out s c.args.packet.now (cc) c.requires.wants (cc) (cc)))
+])
