@@ -167,14 +167,12 @@ module _ {c : Comparison} {lists : Lists} (s : ComparerRepresents c lists) (p : 
     left_next : c.wants ≡ Left → (third : Bool) → (is_own_write p && is_third c.left.last p) ≡ third
         → AlikeUpTo c.block (cut_for c.who (lists.left ++ p ∷ [])) (cut_for c.who lists.right)
         (one_cut third p (LastBlock c.held.first)) (LastBlock c.held.second)
-    left_next e third is = rw (its_cut s.left p hear third is) (up_to_more third p c.block (cut_for c.who lists.left)
-        (cut_for c.who lists.right) (LastBlock c.held.first) (LastBlock c.held.second) (stage_of s e).up_to).0
+    left_next e third is = rw (its_cut s.left p hear third is) (up_to_more third p _ _ _ _ _ (stage_of s e).up_to).0
 
     right_next : c.wants ≡ Right → (third : Bool) → (is_own_write p && is_third c.right.last p) ≡ third
         → AlikeUpTo c.block (cut_for c.who lists.left) (cut_for c.who (lists.right ++ p ∷ []))
         (open_cut c.held.first c.left_end) (one_cut third p (LastBlock c.held.second))
-    right_next e third is = rw (its_cut s.right p hear third is) (up_to_more third p c.block (cut_for c.who lists.left)
-        (cut_for c.who lists.right) (open_cut c.held.first c.left_end) (LastBlock c.held.second) (stage_of s e).up_to).1
+    right_next e third is = rw (its_cut s.right p hear third is) (up_to_more third p _ _ _ _ _ (stage_of s e).up_to).1
 
     -- the packet of the left list is left out, ends the block or joins it
     pub left_given : c.wants ≡ Left → (own third : Bool) → is_own_write p ≡ own → is_third c.left.last p ≡ third

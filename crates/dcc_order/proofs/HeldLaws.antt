@@ -1,6 +1,6 @@
 -- Two blocks, held by numbers: their members and the order of those that conflict.
-use Rattle.std.proofs.Common.{ℕ, ◌+◌, ◌<◌, ◌≤◌, ◌≡◌, ◌∙◌, refl, sym, ap, subst, List, [], ◌∷◌, ◌++◌, length, arith}
-use Rattle.std.proofs.Common.{Option, inl, inr, Some, cond, get_or, set, map, take, add-one}
+use Rattle.std.proofs.Common.{ℕ, ◌<◌, ◌≡◌, ◌∙◌, refl, sym, ap, subst, List, [], ◌∷◌, ◌++◌, length, arith}
+use Rattle.std.proofs.Common.{Option, inl, inr, Some, cond, get_or, map}
 use Rattle.std.specs.Prelude.{Contains, ◌↔◌, filter}
 use Rattle.std.specs.List.{dedup}
 use Rattle.std.specs.Option.{unwrap_or}
@@ -9,9 +9,7 @@ use Rattle.std.specs.BTreeMap.{is_at}
 use Rattle.std.proofs.Math.Bool.{or_comm}
 use Rattle.std.proofs.Math.Path.{fun_ext}
 use Rattle.std.proofs.lemmas.Bool.{cases_order}
-use Rattle.std.proofs.Math.Seq.{take-suc-set, map-set_same}
-use Rattle.std.proofs.lemmas.List.{length-append, map-append, length-map, length-take, take-append-le, get_or_default}
-use Rattle.std.proofs.lemmas.List.{get_or-map, get_or-take, length-set}
+use Rattle.std.proofs.lemmas.List.{map-append, get_or_default}
 use Rattle.std.proofs.lemmas.List.Elements.{Contains-get_or}
 use Rattle.dcc_wire.specs.Frames.{IsFrame}
 use Rattle.dcc_packet.specs.declared.packet.Packet.{Packet}
@@ -20,13 +18,11 @@ use Rattle.dcc_packet.specs.SamePacket.{same}
 use Rattle.dcc_packet.specs.Spelling.{spelling}
 use Rattle.dcc_regs.specs.Conflict.{Conflict}
 use Rattle.dcc_regs.proofs.LawLemmas.{conflict_is_mutual}
-use Rattle.dcc_order.specs.declared.places.Place.{Place}
 use Rattle.dcc_order.specs.AlikeLists.{turns}
 use Rattle.dcc_order.specs.Verdicts.{SameMembers, SameOrder}
 use Rattle.dcc_order.specs.FrameNumbers.{frame_number, IsIndex}
 use Rattle.dcc_order.specs.Held.{Held}
-use Rattle.dcc_order.specs.HeldPlaces.{AreHeld, held_at, members_at, numbers_in_slots, packets_numbered, Numbered}
-use Rattle.dcc_order.specs.HeldPlaces.{NumberedAlike}
+use Rattle.dcc_order.specs.NumberedBlocks.{AreHeld, blocks_numbered, packets_numbered, Numbered, NumberedAlike}
 use Rattle.dcc_order.specs.Members.{member_number, EachOnce}
 use Rattle.dcc_order.specs.Turns.{turns_of}
 use Rattle.dcc_order.proofs.Contained.{contains_all, contains_map}
@@ -55,28 +51,12 @@ module _ {members more : List Packet} {n : ℕ} {x : Packet} (g : Grows members 
       map-append (λ n. get_or more n Idle) ns (n ∷ [])
       ∙ rw (packets_more ns all, stands_at more x Idle (rw g.number g.inside), g.number) refl
 
-count_of : (places : List Place) (count : ℕ) → count ≤ length places → length (members_at places count) ≡ count
-count_of places count inside = length-map (take count places) (λ place. place.member) ∙ simp length-take (omega arith)
-
--- one more packet of the first block
-pub record Pushed (before : Held) (others : List ℕ) (x : Packet) (found : ℕ → Option ℕ) (now : List Place) (count : ℕ)
-    : Type 0 where
-  pub held : AreHeld now count others
-  pub index : IsIndex found (members_at now count)
-  pub view : held_at now count others ≡ record before { first = before.first ++ x ∷ [] }
-
-module _ {places : List Place} {count : ℕ} {others : List ℕ} {before : Held} (found : ℕ → Option ℕ) (x : Packet)
-    (key number : ℕ) (held : AreHeld places count others) (view_is : held_at places count others ≡ before)
-    (index : IsIndex found (members_at places count)) (frame : IsFrame (spelling x))
-    (is : key ≡ frame_number (spelling x)) (told : number ≡ unwrap_or (found key) count) where
-  abbrev members : List Packet
-  members = members_at places count
-
-  size : length members ≡ count
-  size = count_of places count held.within
-
+module _ {members : List Packet} {numbers others : List ℕ} {before : Held} (found : ℕ → Option ℕ) (x : Packet)
+    (key count number : ℕ) (size : count ≡ length members) (held : AreHeld members numbers others) (view_is : blocks_numbered members numbers others ≡ before)
+    (index : IsIndex found members) (frame : IsFrame (spelling x)) (is : key ≡ frame_number (spelling x))
+    (told : number ≡ unwrap_or (found key) count) where
   its_number : number ≡ member_number members x
-  its_number = number_is found members x key number index frame is count size told
+  its_number = number_is found members x key number index frame is (rw (← size) told)
 
   -- a number that is not how many there are is that of a member
   known : (number ≡ count → ⊥) → Grows members members number x
@@ -85,63 +65,48 @@ module _ {places : List Place} {count : ℕ} {others : List ℕ} {before : Held}
   -- a packet that is no member is not in the first block
   pub is_foreign : number ≡ count → Contains before.first x → ⊥
   is_foreign e h =
-      let m = (held.members.same_set x).1 (subst (λ (v : Held). Contains v.first x) (sym view_is) h) in
-      let place : member_number members x ≡ m.0 = ap (member_number members) (sym m.2) ∙ held.members.once m.0 x m.1 in
+      let m = (held.each_once.same_set x).1 (subst (λ (v : Held). Contains v.first x) (sym view_is) h) in
+      let place : member_number members x ≡ m.0 = ap (member_number members) (sym m.2) ∙ held.each_once.once m.0 x m.1 in
       omega (arith, place, its_number, size, m.1)
 
   -- a packet of the second block that is a member
-  pub push_second : (number ≡ count → ⊥) → AreHeld places count (others ++ number ∷ [])
-      × (held_at places count (others ++ number ∷ []) ≡ record before { second = before.second ++ x ∷ [] })
+  pub push_second : (number ≡ count → ⊥) → AreHeld members numbers (others ++ number ∷ [])
+      × (blocks_numbered members numbers (others ++ number ∷ []) ≡ record before { second = before.second ++ x ∷ [] })
   push_second apart = (
     search (held, numbered_push members others number held.second_numbered (known apart).inside),
     rw (← view_is, packets_push (known apart) others held.second_numbered) refl,
   )
 
-  -- one more packet of the first block, by what its number then is
-  module _ (then_found : ℕ → Option ℕ)
-      (put : (q : ℕ) → then_found q ≡ cond (is_at (nat_cmp key) q) (Some number) (found q)) where
-    pushed : (now : List Place) (n : ℕ) → Grows members (members_at now n) number x
-        → numbers_in_slots now ≡ numbers_in_slots places ++ number ∷ [] → n ≤ length now
-        → Pushed before others x then_found now n
-    pushed now n g ns within =
-        let push = packets_push g (numbers_in_slots places) held.first_numbered in record {
-          held = record {
-            within = within;
-            members = rw (ns, push) (g.are (packets_numbered members (numbers_in_slots places)) held.members);
-            first_numbered = rw ns (numbered_push (members_at now n) (numbers_in_slots places) number
-                (numbered_more g (numbers_in_slots places) held.first_numbered) g.inside);
-            second_numbered = numbered_more g others held.second_numbered;
-          };
-          index = index_more found members x key number index frame is then_found g put;
-          view = rw (← view_is, ns, push, packets_more g others held.second_numbered) refl;
-        }
+  -- one more packet of the first block
+  pushed : (more : List Packet) → Grows members more number x → AreHeld more (numbers ++ number ∷ []) others
+      × (blocks_numbered more (numbers ++ number ∷ []) others ≡ record before { first = before.first ++ x ∷ [] })
+  pushed more g =
+      let push = packets_push g numbers held.first_numbered in (
+        record {
+          each_once = rw push (g.are (packets_numbered members numbers) held.each_once);
+          first_numbered = numbered_push more numbers number (numbered_more g numbers held.first_numbered) g.inside;
+          second_numbered = numbered_more g others held.second_numbered;
+        },
+        rw (← view_is, push, packets_more g others held.second_numbered) refl,
+      )
 
-    abbrev longer : List Place
-    longer = places ++ record { number = number; member = x } ∷ []
+  pub push_known : (number ≡ count → ⊥) → AreHeld members (numbers ++ number ∷ []) others
+      × (blocks_numbered members (numbers ++ number ∷ []) others ≡ record before { first = before.first ++ x ∷ [] })
+  push_known apart = pushed members (known apart)
 
-    front : (n : ℕ) → n ≤ length places → take n longer ≡ take n places
-    front n inside = rw take-append-le
+  -- a packet that is no member yet
+  grown : number ≡ count → Grows members (members ++ x ∷ []) number x
+  grown none = rw (none, size) (new_member members x (sym its_number ∙ none ∙ size))
 
-    numbers : numbers_in_slots longer ≡ numbers_in_slots places ++ number ∷ []
-    numbers = map-append (λ place. place.number) places (record { number = number; member = x } ∷ [])
+  pub push_new : number ≡ count → AreHeld (members ++ x ∷ []) (numbers ++ number ∷ []) others
+      × (blocks_numbered (members ++ x ∷ []) (numbers ++ number ∷ []) others
+      ≡ record before { first = before.first ++ x ∷ [] })
+  push_new none = pushed (members ++ x ∷ []) (grown none)
 
-    pub push_known : (number ≡ count → ⊥) → Pushed before others x then_found longer count
-    push_known apart = pushed longer count (rw (front count held.within) (known apart)) numbers
-        (omega (arith, held.within, length-append {A = Place}))
-
-    -- a packet that is no member yet is put where its number is
-    pub push_new : number ≡ count → (d : Place) → Pushed before others x then_found
-        (set longer number (record (get_or longer number d) { member = x })) (count + 1)
-    push_new none d =
-        let put_there : Place = record (get_or longer number d) { member = x } in
-        let here : number < length longer = omega (arith, held.within, length-append {A = Place}) in
-        let members_now : members_at (set longer number put_there) (count + 1) ≡ members ++ x ∷ [] =
-        rw (add-one count, ← none, take-suc-set longer number put_there here, front number (omega (arith, held.within)))
-        (map-append (λ place. place.member) (take number places) (put_there ∷ [])) in
-        pushed (set longer number put_there) (count + 1)
-        (rw members_now (rw (none ∙ sym size) (new_member members x (sym its_number ∙ none ∙ sym size))))
-        (map-set_same (λ (place : Place). place.number) longer number put_there d refl ∙ numbers)
-        (rw (length-set longer number put_there) (omega (arith, here)))
+  pub index_new : number ≡ count → (then_found : ℕ → Option ℕ)
+      → ((q : ℕ) → then_found q ≡ cond (is_at (nat_cmp key) q) (Some number) (found q))
+      → IsIndex then_found (members ++ x ∷ [])
+  index_new none then_found put = index_more found members x key number index frame is then_found (grown none) put
 
 numbers_back : (members : List Packet) → EachOnce members → (ns : List ℕ) → Numbered members ns
     → map (member_number members) (packets_numbered members ns) ≡ ns
@@ -154,68 +119,51 @@ turned p q left right =
     subst (λ t. dedup same (filter t left) ≡ dedup same (filter t right))
     (fun_ext (λ x. or_comm (same p x) (same q x)))
 
-module _ {places : List Place} {count : ℕ} {others : List ℕ} (held : AreHeld places count others) where
-  abbrev ms : List Packet
-  ms = members_at places count
-
+module _ {ms : List Packet} {numbers others : List ℕ} (held : AreHeld ms numbers others) where
   abbrev at : ℕ → Packet
   at k = get_or ms k Idle
 
   abbrev first : List Packet
-  first = packets_numbered ms (numbers_in_slots places)
+  first = packets_numbered ms numbers
 
   abbrev second : List Packet
   second = packets_numbered ms others
 
-  within : (k : ℕ) → k < count → k < length ms
-  within k below = omega (arith, below, count_of places count held.within)
-
-  stands : (k : ℕ) → k < count → Contains first (at k)
-  stands k below = (held.members.same_set (at k)).0 (Contains-get_or ms k Idle (within k below))
+  stands : (k : ℕ) → k < length ms → Contains first (at k)
+  stands k below = (held.each_once.same_set (at k)).0 (Contains-get_or ms k Idle below)
 
   -- a packet of the first block, at its number
-  placed : (p : Packet) → Contains first p → (k : ℕ) × (k < count) × (at k ≡ p)
+  placed : (p : Packet) → Contains first p → (k : ℕ) × (k < length ms) × (at k ≡ p)
   placed p h =
-      let m = (held.members.same_set p).1 h in
-      (m.0, (omega (arith, m.1, count_of places count held.within)), get_or_default ms m.0 Idle p m.1 ∙ m.2)
+      let m = (held.each_once.same_set p).1 h in (m.0, m.1, get_or_default ms m.0 Idle p m.1 ∙ m.2)
 
   its_numbers : map (member_number ms) second ≡ others
-  its_numbers = numbers_back ms held.members.once others held.second_numbered
+  its_numbers = numbers_back ms held.each_once.once others held.second_numbered
 
   -- the blocks have the same packets exactly where the second has each number
-  pub members_by_numbers : ((k : ℕ) → k < count → Contains others k) ↔ SameMembers (held_at places count others).first
-      (held_at places count others).second
+  pub members_by_numbers : ((k : ℕ) → k < length ms → Contains others k) ↔ SameMembers first second
   members_by_numbers = (
     λ each p. (
       λ h. let m = placed p h in subst (Contains second) m.2 (contains_map at others m.0 (each m.0 m.1)),
-      λ h. (held.members.same_set p).0 (place_contains ms p
+      λ h. (held.each_once.same_set p).0 (place_contains ms p
           (contains_all (λ n. n < length ms) others (member_number ms p) held.second_numbered (number_in p h))),
     ),
-    λ same k below. rw (held.members.once k Idle (within k below)) at
-        (number_in (at k) ((same (at k)).0 (stands k below))),
+    λ same k below. rw (held.each_once.once k Idle below) at (number_in (at k) ((same (at k)).0 (stands k below))),
   )
     where
       number_in : (p : Packet) → Contains second p → Contains others (member_number ms p)
       number_in p h = rw its_numbers at (contains_map (member_number ms) second p h)
 
-  member_at : (k : ℕ) (e : Place) → k < count → at k ≡ (get_or places k e).member
-  member_at k e below =
-      get_or-map (λ (place : Place). place.member) (take count places) k e Idle
-      (simp length-take (omega (arith, held.within)))
-      ∙ ap (λ (place : Place). place.member) (get_or-take count places k e below)
-
-  told : (own rival : ℕ) → own < count → rival < own → Conflict (at own) (at rival)
+  told : (own rival : ℕ) → own < length ms → rival < own → Conflict (at own) (at rival)
       → (turns (at own) (at rival) first ≡ turns (at own) (at rival) second)
-      ↔ (turns_of own rival (numbers_in_slots places) ≡ turns_of own rival others)
+      ↔ (turns_of own rival numbers ≡ turns_of own rival others)
   told own rival own_in before clash =
-      rw (numbers_back ms held.members.once (numbers_in_slots places) held.first_numbered, its_numbers) at
-      (same_turns_counted ms held.members.once own rival (within own own_in)
-      (within rival (omega (arith, before, own_in)))
+      rw (numbers_back ms held.each_once.once numbers held.first_numbered, its_numbers) at
+      (same_turns_counted ms held.each_once.once own rival own_in (omega (arith, before, own_in))
       (λ e. clash.apart (cc)) first second)
 
   -- any two packets that conflict take the same turns exactly where the number of one of them does with each before it
-  pub order_by_numbers : ((own : ℕ) → own < count → NumberedAlike places others own) ↔ SameOrder
-      (held_at places count others).first (held_at places count others).second
+  pub order_by_numbers : ((own : ℕ) → own < length ms → NumberedAlike ms numbers others own) ↔ SameOrder first second
   order_by_numbers = (
     λ each p q hp hq clash.
         let one = placed p hp in
@@ -228,18 +176,15 @@ module _ {places : List Place} {count : ℕ} {others : List ℕ} (held : AreHeld
           | inr (inr low) ↦ numbered each one.0 other.0 one.1 low there
         ]),
     λ order own own_in rival d e before clash.
-        let rival_in : rival < count = omega (arith, before, own_in) in
-        let there : Conflict (at own) (at rival) = rw (member_at own d own_in, member_at rival e rival_in) clash in
+        let rival_in : rival < length ms = omega (arith, before, own_in) in
+        let there : Conflict (at own) (at rival) = rw
+        (get_or_default ms own Idle d own_in, get_or_default ms rival Idle e rival_in) clash in
         (told own rival own_in before there).0
         (order (at own) (at rival) (stands own own_in) (stands rival rival_in) there),
   )
     where
-      nowhere : Place
-      nowhere = record { number = 0; member = Idle }
-
-      numbered : ((own : ℕ) → own < count → NumberedAlike places others own) → (own rival : ℕ) → own < count
-          → rival < own
+      numbered : ((own : ℕ) → own < length ms → NumberedAlike ms numbers others own) → (own rival : ℕ)
+          → own < length ms → rival < own
           → Conflict (at own) (at rival) → turns (at own) (at rival) first ≡ turns (at own) (at rival) second
       numbered each own rival own_in before clash =
-          (told own rival own_in before clash).1 (each own own_in rival nowhere nowhere before
-          (rw (← member_at own nowhere own_in, ← member_at rival nowhere (omega (arith, before, own_in))) clash))
+          (told own rival own_in before clash).1 (each own own_in rival Idle Idle before clash)

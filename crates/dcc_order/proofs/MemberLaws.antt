@@ -116,9 +116,8 @@ one_frame (x ∷ xs) [] low mine e = absurd (omega (arith, positive xs))
 module _ (found : ℕ → Option ℕ) (members : List Packet) (x : Packet) (key number : ℕ) (index : IsIndex found members)
     (frame : IsFrame (spelling x)) (is : key ≡ frame_number (spelling x)) where
   -- the number that an index has for a packet, or how many there are
-  pub number_is : (count : ℕ) → length members ≡ count → number ≡ unwrap_or (found key) count
-      → number ≡ member_number members x
-  number_is count size told = told ∙ rw (is, index x frame, ← size) (grind (arith, nat_tests, number-within members x))
+  pub number_is : number ≡ unwrap_or (found key) (length members) → number ≡ member_number members x
+  number_is told = told ∙ rw (is, index x frame) (grind (arith, nat_tests, number-within members x))
 
   -- the index after the number was put at that of the packet's frame
   pub index_more : (then_found : ℕ → Option ℕ) {more : List Packet} → Grows members more number x

@@ -16,7 +16,7 @@ pub mod SentHalves
 pub mod SafeTracks
 pub mod NoisyTracks
 pub mod Held
-pub mod HeldPlaces
+pub mod NumberedBlocks
 pub mod Comparisons
 pub mod FrameNumbers
 pub mod Inner

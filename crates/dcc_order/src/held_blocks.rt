@@ -6,9 +6,7 @@ ghost use Rattle.dcc_order.specs.Verdicts.{SameMembers, SameOrder};
 ghost use Rattle.dcc_order.specs.Held.{nothing_held};
 
 use crate::frame_number::number_of_frame;
-use crate::places::{
-    Place, contains_all_below, number_at, push_place, same_turns_of_all, set_distinct_packet,
-};
+use crate::numbered_blocks::{contains_all_below, number_at, same_turns_of_all};
 use crate::turns::Turns;
 use dcc_packet::Packet;
 use std::alloc::{AllocError, Global};
@@ -16,17 +14,19 @@ use std::collections::BTreeMap;
 use std::marker::Model;
 
 /// The open blocks of two lists: the first block belongs to the first list, and the second block to
-/// the second list. Each different packet of the first block has a number, and the packets of the
-/// second block are stored as these numbers. A packet of the second block that the first block does
-/// not contain is not stored, since the blocks then differ.
+/// the second list. Each different packet of the first block has a number, and the packets of both
+/// blocks are stored as these numbers. A packet of the second block that the first block does not
+/// contain is not stored, since the blocks then differ.
 ///
-/// All memory is allocated while packets are appended. The memory holds the packets of the blocks,
-/// the turns of each different packet, and an index of the different packets. A key of the index is
-/// a frame that `frame_number` encodes as a number.
+/// All memory is allocated while packets are appended. The memory holds the different packets, the
+/// numbers of the packets of both blocks, the turns of each different packet, and an index of the
+/// different packets. A key of the index is a frame that `frame_number` encodes as a number.
 #[derive(Drop)]
 pub struct HeldBlocks {
-    places: Vec<Place>,
-    count: usize,
+    // the different packets of the first block
+    members: Vec<Packet>,
+    // the numbers of the packets of the first block and of the second block, in order
+    numbers: Vec<usize>,
     others: Vec<usize>,
     // the number of each different packet, with the `frame_number` of its frame as the key
     index: BTreeMap<u64, usize>,
@@ -41,17 +41,17 @@ impl Model for HeldBlocks {
 
     ghost Value = { Held };
 
-    ghost use Rattle.std.specs.Prelude.{◌≤◌, vec_capacity};
+    ghost use Rattle.std.specs.Prelude.{◌≤◌, vec_capacity, vec_len};
     ghost use Rattle.std.specs.Ordering.{nat_cmp};
     ghost use Rattle.std.specs.BTreeMap.{get};
     ghost use Rattle.dcc_order.specs.FrameNumbers.{IsIndex};
-    ghost use Rattle.dcc_order.specs.HeldPlaces.{held_at, members_at, AreHeld};
+    ghost use Rattle.dcc_order.specs.NumberedBlocks.{blocks_numbered, AreHeld};
 
-    ghost view = { λ b. held_at b.places.items b.count b.others.items };
+    ghost view = { λ b. blocks_numbered b.members.items b.numbers.items b.others.items };
 
-    ghost invariant = { λ b. AreHeld b.places.items b.count b.others.items
-        × IsIndex (get nat_cmp b.index) (members_at b.places.items b.count)
-        × (b.count ≤ vec_capacity b.turns) × (b.count ≤ vec_capacity b.other_turns) };
+    ghost invariant = { λ b. AreHeld b.members.items b.numbers.items b.others.items
+        × IsIndex (get nat_cmp b.index) b.members.items
+        × (vec_len b.members ≤ vec_capacity b.turns) × (vec_len b.members ≤ vec_capacity b.other_turns) };
 }
 
 impl HeldBlocks {
@@ -60,8 +60,8 @@ impl HeldBlocks {
         ensures { result ≡ nothing_held }
     {
         HeldBlocks {
-            places: Vec::new(alloc),
-            count: 0,
+            members: Vec::new(alloc),
+            numbers: Vec::new(alloc),
             others: Vec::new(alloc),
             index: BTreeMap::new(alloc),
             turns: Vec::new(alloc),
@@ -77,18 +77,18 @@ impl HeldBlocks {
         ensures err { OnErr result (self.new ≡ self.old) }
     {
         let frame = number_of_frame(packet);
-        let number = number_at(&self.index, frame, self.count);
-        let members = self.count.saturating_add(1);
-        self.turns.reserve(members)?;
-        self.other_turns.reserve(members)?;
-        self.places.reserve(1)?;
-        // a packet that the index contains keeps its number
-        self.index.insert(frame, number)?;
-        push_place(&mut self.places, number, packet);
-        if number == self.count {
-            set_distinct_packet(&mut self.places, number, packet);
-            self.count += 1;
+        let count = self.members.len();
+        let number = number_at(&self.index, frame, count);
+        self.numbers.reserve(1)?;
+        if number == count {
+            let members = count.saturating_add(1);
+            self.turns.reserve(members)?;
+            self.other_turns.reserve(members)?;
+            self.members.reserve(1)?;
+            self.index.insert(frame, number)?;
+            self.members.push_reserved(*packet);
         }
+        self.numbers.push_reserved(number);
         Ok(())
     }
 
@@ -103,8 +103,9 @@ impl HeldBlocks {
         ensures err { OnErr result (self.new ≡ self.old) }
     {
         let frame = number_of_frame(packet);
-        let number = number_at(&self.index, frame, self.count);
-        if number == self.count {
+        let count = self.members.len();
+        let number = number_at(&self.index, frame, count);
+        if number == count {
             return Ok(false);
         }
         self.others.push(number)?;
@@ -116,7 +117,7 @@ impl HeldBlocks {
         ensures { length self.now.first + length self.now.second < 2 ^ 64
             → result ≡ length self.now.first + length self.now.second }
     {
-        let first = self.places.len() as u64;
+        let first = self.numbers.len() as u64;
         first.saturating_add(self.others.len() as u64)
     }
 
@@ -124,8 +125,8 @@ impl HeldBlocks {
     pub fn clear(&mut self)
         ensures { self.new ≡ nothing_held }
     {
-        self.places.clear();
-        self.count = 0;
+        self.members.clear();
+        self.numbers.clear();
         self.others.clear();
         self.index.clear();
     }
@@ -135,7 +136,8 @@ impl HeldBlocks {
         ensures same { IsTrue result ↔ SameMembers self.old.first self.old.second }
         ensures unchanged { self.new ≡ self.old }
     {
-        let same = contains_all_below(self.others.as_slice(), self.count, &mut self.other_turns);
+        let count = self.members.len();
+        let same = contains_all_below(self.others.as_slice(), count, &mut self.other_turns);
         self.other_turns.clear();
         same
     }
@@ -147,8 +149,8 @@ impl HeldBlocks {
         ensures unchanged { self.new ≡ self.old }
     {
         let same = same_turns_of_all(
-            self.places.as_slice(),
-            self.count,
+            self.members.as_slice(),
+            self.numbers.as_slice(),
             self.others.as_slice(),
             &mut self.turns,
             &mut self.other_turns,

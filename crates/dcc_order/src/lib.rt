@@ -14,7 +14,7 @@ mod held_blocks;
 mod last_heard;
 pub mod laws;
 mod no_memory;
-mod places;
+mod numbered_blocks;
 mod single;
 mod turns;
 mod verdict;

@@ -1,53 +1,59 @@
-use Rattle.std.proofs.Common.{arith}
+use Rattle.std.proofs.Common.{arith, ◌∙◌}
 use Rattle.std.specs.Ordering.{nat_cmp}
 use Rattle.std.specs.BTreeMap.{get}
-use Rattle.dcc_packet.specs.declared.packet.Packet.TheVariants.{Idle}
-use Rattle.dcc_order.specs.declared.places.Place.{Place}
-use Rattle.dcc_order.proofs.HeldLaws.{push_known, push_new}
+use Rattle.dcc_order.proofs.HeldLaws.{push_known, push_new, index_new}
 use Rattle.dcc_order.proofs.held_blocks.HeldBlocks.push_first.Goals as goal
+use Rattle.dcc_order.proofs.held_blocks.HeldBlocks.push_first.Goals.{then-number-count+in_ok-reserve-2+in_ok-reserve-3+in_ok-reserve-4+in_ok-insert}
+use Rattle.dcc_order.proofs.held_blocks.HeldBlocks.push_first.Goals.{else-number-count}
 
-abbrev nowhere : Place
-nowhere = record { number = 0; member = Idle }
-
-pub invariant_of-self-then-number-self : goal.invariant_of-self-then-number-self
-invariant_of-self-then-number-self c =
+pub invariant_of-self-2 : goal.invariant_of-self-2
+invariant_of-self-2 c =
     let frame = c.number_of_frame-frame.ensures in
-    let all = push_new (get nat_cmp c.self.inside.index) c.args.packet.now _ _ c.self.invariant.0 c.self.view_is
-    c.self.invariant.1 frame.valid frame.number c.number_at-number.ensures (get nat_cmp c.insert.new.self)
-    c.in_ok-insert.ensures.updates.0 c.if-number-self.true nowhere in
-    let put = c.set_distinct_packet.ensures nowhere in
-    let within = c.self.invariant.0.within in
-    let longer = c.push_place.ensures.len in (
-      rw (put, c.push_place.ensures.items, c.reserve-3.ensures.items) all.held,
-      rw (put, c.push_place.ensures.items, c.reserve-3.ensures.items) all.index,
-      omega (arith, within, longer, c.saturating_add-members.ensures, c.in_ok-reserve.ensures.ok),
-      omega (arith, within, longer, c.saturating_add-members.ensures, c.in_ok-reserve-2.ensures.ok),
-    )
+    let size = c.len-count.ensures ∙ c.self.inside.members.ok.0 in
+    elim c.if-number-count.branch [
+      | then-number-count+in_ok-reserve-2+in_ok-reserve-3+in_ok-reserve-4+in_ok-insert w ↦
+          let all = push_new (get nat_cmp c.self.inside.index) c.args.packet.now _ _ _ size c.self.invariant.0 c.self.view_is
+          c.self.invariant.1 frame.valid frame.number c.number_at-number.ensures w.if-number-count.true in
+          let index = index_new (get nat_cmp c.self.inside.index) c.args.packet.now _ _ _ size c.self.invariant.0 c.self.view_is
+          c.self.invariant.1 frame.valid frame.number c.number_at-number.ensures w.if-number-count.true (get nat_cmp w.insert.new.self)
+          w.in_ok-insert.ensures.updates.0 in
+          let len = w.push_reserved.ensures.len in
+          rw (
+            c.push_reserved-2.ensures.items,
+            w.self-inside-is,
+            c.in_ok-reserve.ensures.items,
+            w.push_reserved.ensures.items,
+            w.in_ok-reserve-4.ensures.items,
+          ) (
+            all.0,
+            index,
+            omega (arith, len, w.in_ok-reserve-4.ensures.len, w.saturating_add-members.ensures, w.in_ok-reserve-2.ensures.ok),
+            omega (arith, len, w.in_ok-reserve-4.ensures.len, w.saturating_add-members.ensures, w.in_ok-reserve-3.ensures.ok),
+          )
+      | else-number-count w ↦
+          let all = push_known (get nat_cmp c.self.inside.index) c.args.packet.now _ _ _ size c.self.invariant.0 c.self.view_is
+          c.self.invariant.1 frame.valid frame.number c.number_at-number.ensures w.if-number-count.false in
+          rw (c.push_reserved-2.ensures.items, w.self-inside-is, c.in_ok-reserve.ensures.items)
+          (all.0, c.self.invariant.1, c.self.invariant.2, c.self.invariant.3)
+    ]
 
-pub invariant_of-self-else-number-self : goal.invariant_of-self-else-number-self
-invariant_of-self-else-number-self c =
+pub returns-clause-ok : goal.returns-clause-ok
+returns-clause-ok c =
     let frame = c.number_of_frame-frame.ensures in
-    let all = push_known (get nat_cmp c.self.inside.index) c.args.packet.now _ _ c.self.invariant.0 c.self.view_is
-    c.self.invariant.1 frame.valid frame.number c.number_at-number.ensures (get nat_cmp c.insert.new.self)
-    c.in_ok-insert.ensures.updates.0 c.if-number-self.false in (
-      rw (c.push_place.ensures.items, c.reserve-3.ensures.items) all.held,
-      rw (c.push_place.ensures.items, c.reserve-3.ensures.items) all.index,
-      omega (arith, c.self.invariant.2, c.reserve.ensures),
-      omega (arith, c.self.invariant.3, c.reserve-2.ensures),
-    )
-
-pub returns-then-number-self-clause-ok : goal.returns-then-number-self-clause-ok
-returns-then-number-self-clause-ok c =
-    let frame = c.number_of_frame-frame.ensures in
-    let all = push_new (get nat_cmp c.self.inside.index) c.args.packet.now _ _ c.self.invariant.0 c.self.view_is
-    c.self.invariant.1 frame.valid frame.number c.number_at-number.ensures (get nat_cmp c.insert.new.self)
-    c.in_ok-insert.ensures.updates.0 c.if-number-self.true nowhere in
-    rw (c.set_distinct_packet.ensures nowhere, c.push_place.ensures.items, c.reserve-3.ensures.items) all.view
-
-pub returns-else-number-self-clause-ok : goal.returns-else-number-self-clause-ok
-returns-else-number-self-clause-ok c =
-    let frame = c.number_of_frame-frame.ensures in
-    let all = push_known (get nat_cmp c.self.inside.index) c.args.packet.now _ _ c.self.invariant.0 c.self.view_is
-    c.self.invariant.1 frame.valid frame.number c.number_at-number.ensures (get nat_cmp c.insert.new.self)
-    c.in_ok-insert.ensures.updates.0 c.if-number-self.false in
-    rw (c.push_place.ensures.items, c.reserve-3.ensures.items) all.view
+    let size = c.len-count.ensures ∙ c.self.inside.members.ok.0 in
+    elim c.if-number-count.branch [
+      | then-number-count+in_ok-reserve-2+in_ok-reserve-3+in_ok-reserve-4+in_ok-insert w ↦
+          let all = push_new (get nat_cmp c.self.inside.index) c.args.packet.now _ _ _ size c.self.invariant.0 c.self.view_is
+          c.self.invariant.1 frame.valid frame.number c.number_at-number.ensures w.if-number-count.true in
+          rw (
+            c.push_reserved-2.ensures.items,
+            w.self-inside-is,
+            c.in_ok-reserve.ensures.items,
+            w.push_reserved.ensures.items,
+            w.in_ok-reserve-4.ensures.items,
+          ) all.1
+      | else-number-count w ↦
+          let all = push_known (get nat_cmp c.self.inside.index) c.args.packet.now _ _ _ size c.self.invariant.0 c.self.view_is
+          c.self.invariant.1 frame.valid frame.number c.number_at-number.ensures w.if-number-count.false in
+          rw (c.push_reserved-2.ensures.items, w.self-inside-is, c.in_ok-reserve.ensures.items) all.1
+    ]

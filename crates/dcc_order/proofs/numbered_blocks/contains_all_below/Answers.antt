@@ -2,7 +2,7 @@ use Rattle.std.proofs.Common.{◌<◌, arith, length, ℕ}
 use Rattle.dcc_order.specs.Turns.{no_turns}
 use Rattle.dcc_order.proofs.Contained.{contains_all}
 use Rattle.dcc_order.proofs.TurnLaws.{has_come}
-use Rattle.dcc_order.proofs.places.contains_all_below.Goals as goal
+use Rattle.dcc_order.proofs.numbered_blocks.contains_all_below.Goals as goal
 
 pub returns-clause-each : goal.returns-clause-each
 returns-clause-each c =

@@ -1,7 +1,7 @@
 use Rattle.std.proofs.Common.{◌≤◌}
 use Rattle.std.specs.Prelude.{vec_capacity}
 use Rattle.dcc_order.specs.Turns.{Started}
-use Rattle.dcc_order.proofs.places.begin_turns.Given as goal
+use Rattle.dcc_order.proofs.numbered_blocks.begin_turns.Given as goal
 
 abbrev pub invariant-loop-rival : goal.invariant-loop-rival
 invariant-loop-rival l =

@@ -1,8 +1,8 @@
 use Rattle.std.proofs.Common.{◌∙◌, refl, sym, arith}
 use borrow.Author.Count.{below_more}
-use Rattle.dcc_order.specs.HeldPlaces.{NumberedAlike}
+use Rattle.dcc_order.specs.NumberedBlocks.{NumberedAlike}
 use Rattle.std.proofs.lemmas.Bool.{true≢false}
-use Rattle.dcc_order.proofs.places.same_turns_of_all.Goals as goal
+use Rattle.dcc_order.proofs.numbered_blocks.same_turns_of_all.Goals as goal
 
 pub returns-then-not-same_turns_of-clause-same : goal.returns-then-not-same_turns_of-clause-same
 returns-then-not-same_turns_of-clause-same c = (
@@ -15,7 +15,7 @@ returns-then-not-same_turns_of-clause-same c = (
 
 pub loop-own-preserved : goal.loop-own-preserved
 loop-own-preserved c = record {
-  alike = λ k below. below_more (NumberedAlike c.args.places.now c.args.others.now) c.loop-own.own
+  alike = λ k below. below_more (NumberedAlike c.args.members.now c.args.numbers.now c.args.others.now) c.loop-own.own
       c.loop-own.invariant.alike (c.same_turns_of.ensures.same.0 c.if-not-same_turns_of.false) k below;
   room = omega (arith, c.loop-own.invariant.room, c.same_turns_of.ensures.room);
   other_room = omega (arith, c.loop-own.invariant.other_room, c.same_turns_of.ensures.other_room);

@@ -1,7 +1,7 @@
 use Rattle.std.proofs.Common.{take, ◌≤◌}
 use Rattle.std.specs.Prelude.{vec_capacity}
 use Rattle.dcc_order.specs.Turns.{Counted}
-use Rattle.dcc_order.proofs.places.count_turns.Given as goal
+use Rattle.dcc_order.proofs.numbered_blocks.count_turns.Given as goal
 
 abbrev pub invariant-loop-number : goal.invariant-loop-number
 invariant-loop-number l =

@@ -1,14 +1,14 @@
-//! An array of slots. The array stores the packets of the first block, which is the open block of
-//! the first list, and also the different packets of this block.
+//! Two blocks as numbers: which different packets they have, and how these packets alternate. The
+//! number of a packet is its place among the different packets of the first block.
 
-ghost use Rattle.std.specs.Prelude.{◌≡◌, ◌↔◌, ◌<◌, ◌≤◌, ℕ, IsTrue, length, slice_index_or, slice_set, vec_len};
-ghost use Rattle.std.specs.Prelude.{vec_capacity, Contains, ◌+◌, ◌++◌, ◌∷◌, []};
+ghost use Rattle.std.specs.Prelude.{◌≡◌, ◌↔◌, ◌<◌, ◌≤◌, ℕ, IsTrue, length, slice_index_or};
+ghost use Rattle.std.specs.Prelude.{vec_capacity, Contains};
 ghost use Rattle.std.specs.BTreeMap.{get};
 ghost use Rattle.std.specs.List.{AllByRecursion};
 ghost use Rattle.std.specs.Option.{unwrap_or};
 ghost use Rattle.std.specs.Ordering.{nat_cmp};
-ghost use Rattle.dcc_order.specs.declared.places.Place.{Place};
-ghost use Rattle.dcc_order.specs.HeldPlaces.{NumberedAlike, numbers_in_slots};
+ghost use Rattle.dcc_packet.specs.declared.packet.Packet.{Packet as PacketOf};
+ghost use Rattle.dcc_order.specs.NumberedBlocks.{NumberedAlike};
 ghost use Rattle.dcc_order.specs.declared.turns.Turns.{Turns as TurnsOf};
 ghost use Rattle.dcc_order.specs.Turns.{Counted, Started};
 ghost use Rattle.dcc_regs.specs.Conflict.{Conflict};
@@ -17,15 +17,6 @@ use crate::turns::{Turns, take_turn};
 use dcc_packet::Packet;
 use dcc_regs::{conflict, sets_nothing};
 use std::collections::BTreeMap;
-
-/// A slot of the array, with two independent fields. In slot i, the field `number` is the number of
-/// the packet at place i of the first block. The field `member` is the different packet with the
-/// number i, if there is one. So the different packets do not need a separate array.
-#[derive(Clone, Copy, Debug)]
-pub struct Place {
-    pub number: usize,
-    pub member: Packet,
-}
 
 /// Returns the number of the packet whose frame has the number `frame`, or `count` if the index
 /// does not contain the frame.
@@ -36,31 +27,6 @@ pub fn number_at(index: &BTreeMap<u64, usize>, frame: u64, count: usize) -> usiz
         Some(number) => *number,
         None => count,
     }
-}
-
-/// Appends a slot to the array, which must have capacity for one more slot.
-pub fn push_place(places: &mut Vec<Place>, number: usize, packet: &Packet)
-    requires { vec_len places.old < vec_capacity places.old }
-    ensures items { places.new.items ≡ places.old.items ++ (record { number = number; member = packet.now }) ∷ [] }
-    ensures len { vec_len places.new ≡ vec_len places.old + 1 }
-{
-    let _ = places.push(Place {
-        number,
-        member: *packet,
-    });
-}
-
-/// Stores `packet` as the packet with the number `at` among the different packets of the block.
-pub fn set_distinct_packet(places: &mut Vec<Place>, at: usize, packet: &Packet)
-    requires { at < vec_len places.old }
-    ensures { (d : Place)
-        → places.new.items ≡ slice_set places.old.items at
-        (record (slice_index_or places.old.items at d) { member = packet.now }) }
-{
-    places[at] = Place {
-        number: places[at].number,
-        member: *packet,
-    };
 }
 
 /// Returns true if `numbers` contains each number below `count`. The list `turns` must have
@@ -93,21 +59,21 @@ fn all_rivals_occur(turns: &[Turns]) -> bool
 /// Returns true if every two different packets that conflict alternate in the same way in both
 /// blocks. The lists of turns must have capacity for one element for each different packet.
 pub fn same_turns_of_all(
-    places: &[Place],
-    count: usize,
+    members: &[Packet],
+    numbers: &[usize],
     others: &[usize],
     turns: &mut Vec<Turns>,
     other_turns: &mut Vec<Turns>,
 ) -> bool
-    requires within { count ≤ length places.now }
-    requires room { count ≤ vec_capacity turns.old }
-    requires other_room { count ≤ vec_capacity other_turns.old }
-    ensures same { IsTrue result ↔ ((own : ℕ) → own < count → NumberedAlike places.now others.now own) }
+    requires room { length members.now ≤ vec_capacity turns.old }
+    requires other_room { length members.now ≤ vec_capacity other_turns.old }
+    ensures same { IsTrue result ↔ ((own : ℕ) → own < length members.now
+        → NumberedAlike members.now numbers.now others.now own) }
     ensures room { vec_capacity turns.old ≤ vec_capacity turns.new }
     ensures other_room { vec_capacity other_turns.old ≤ vec_capacity other_turns.new }
 {
-    for own in 0..count {
-        if !same_turns_of(places, own, others, turns, other_turns) {
+    for own in 0..members.len() {
+        if !same_turns_of(members, numbers, others, own, turns, other_turns) {
             return false;
         }
     }
@@ -118,59 +84,47 @@ pub fn same_turns_of_all(
 /// same way in both blocks. Conflict is symmetric, so the calls for packets with higher numbers
 /// compare all other pairs.
 fn same_turns_of(
-    places: &[Place],
-    own: usize,
+    members: &[Packet],
+    numbers: &[usize],
     others: &[usize],
+    own: usize,
     turns: &mut Vec<Turns>,
     other_turns: &mut Vec<Turns>,
 ) -> bool
-    requires within { own < length places.now }
+    requires within { own < length members.now }
     requires room { own ≤ vec_capacity turns.old }
     requires other_room { own ≤ vec_capacity other_turns.old }
-    ensures same { IsTrue result ↔ NumberedAlike places.now others.now own }
+    ensures same { IsTrue result ↔ NumberedAlike members.now numbers.now others.now own }
     ensures room { vec_capacity turns.old ≤ vec_capacity turns.new }
     ensures other_room { vec_capacity other_turns.old ≤ vec_capacity other_turns.new }
 {
     // a packet that sets no register conflicts with no packet
-    if sets_nothing(&places[own].member) {
+    if sets_nothing(&members[own]) {
         return true;
     }
-    count_turns_at(turns, own, own, places);
+    count_turns(turns, own, own, numbers);
     count_turns(other_turns, own, own, others);
-    same_turns_at(places, own, turns.as_slice(), other_turns.as_slice())
+    same_turns_at(members, own, turns.as_slice(), other_turns.as_slice())
 }
 
 /// Returns true if packet `own` has equal turns in both lists with each rival that conflicts with
 /// packet `own`.
-fn same_turns_at(places: &[Place], own: usize, left: &[Turns], right: &[Turns]) -> bool
-    requires own_in { own < length places.now }
-    requires within { length left.now ≤ length places.now }
+fn same_turns_at(members: &[Packet], own: usize, left: &[Turns], right: &[Turns]) -> bool
+    requires own_in { own < length members.now }
+    requires within { length left.now ≤ length members.now }
     requires each { length right.now ≡ length left.now }
-    ensures { IsTrue result ↔ ((rival : ℕ) (d e : Place) (t : TurnsOf) → rival < length left.now →
-        Conflict (slice_index_or places.now own d).member (slice_index_or places.now rival e).member
+    ensures { IsTrue result ↔ ((rival : ℕ) (d e : PacketOf) (t : TurnsOf) → rival < length left.now →
+        Conflict (slice_index_or members.now own d) (slice_index_or members.now rival e)
         → slice_index_or left.now rival t ≡ slice_index_or right.now rival t) }
 {
     for (rival, taken) in left.iter().enumerate() {
         // most turns are equal, and the comparison of turns is faster than the search for a
         // conflict
-        if !taken.is(&right[rival]) && conflict(&places[own].member, &places[rival].member) {
+        if !taken.is(&right[rival]) && conflict(&members[own], &members[rival]) {
             return false;
         }
     }
     true
-}
-
-/// Counts the turns that packet `own` and each of the first `count` different packets take in the
-/// first block.
-fn count_turns_at(turns: &mut Vec<Turns>, own: usize, count: usize, places: &[Place])
-    requires { count ≤ vec_capacity turns.old }
-    ensures counted { Counted turns.new.items own count (numbers_in_slots places.now) }
-    ensures room { vec_capacity turns.old ≤ vec_capacity turns.new }
-{
-    begin_turns(turns, count);
-    for place in places {
-        take_turn(turns.as_mut_slice(), own, place.number);
-    }
 }
 
 /// Counts the turns that packet `own` and each of the first `count` different packets take in a
