@@ -135,9 +135,7 @@ settled_for : (who : Who) (lists : Lists) (k : ℕ) (u w : Cut) (v : Verdict)
     → AlikeUpTo k (cut_for who lists.left) (cut_for who lists.right) u w →
     SettledFrom lists.left_ended lists.right_ended k u w v → IsVerdictOfAll who lists v
 settled_for who lists k u w v up s = λ lefts rights f g.
-    settled_behind lists.left_ended lists.right_ended k 0 k (cut_for who lists.left) (cut_for who lists.right) u w v
-    (omega arith) up s
-    (cut_for who (lists.left ++ lefts)) (cut_for who (lists.right ++ rights))
+    settled_behind lists.left_ended lists.right_ended k 0 k _ _ u w v (omega arith) up s _ _
     (continues who lists.left_ended lists.left lefts f) (continues who lists.right_ended lists.right rights g)
 
 pub stage_of : {w : Wants} {c : Comparison} {lists : Lists} → ComparerRepresents c lists → c.wants ≡ w → Stage w c lists
@@ -151,8 +149,7 @@ module _ {c : Comparison} {lists : Lists} (w : HasNoVerdict c lists c.left_end (
       (open_cut c.held.second end) → Settled c (record lists { right = right; right_ended = ended }) v
   settled right ended end v verdict f up = record {
     of_all =
-        settled_for c.who (record lists { right = right; right_ended = ended }) c.block
-        (open_cut c.held.first c.left_end) (open_cut c.held.second end) v up
+        settled_for c.who (record lists { right = right; right_ended = ended }) _ _ _ v up
         (settled_at_ends lists.left_ended ended c.block c.held.first c.held.second c.left_end end v
         (λ e. w.left_open ∙ ap is_none e) f verdict);
     both_ended = λ a.
@@ -201,30 +198,12 @@ module _ {c : Comparison} {lists : Lists} (s : ComparerRepresents c lists) (p : 
         (record c { wants = Done (Members c.block); right = with_heard c.right p }) (with_item Right (Some p) lists)
     right_foreign e own none =
         let w = stage_of s e in
-        let all = settled_for c.who (with_item Right (Some p) lists) c.block (open_cut c.held.first c.left_end)
-        (LastBlock (c.held.second ++ p ∷ [])) (Members c.block) (rw own at (right_next e false (rw own)))
+        let all = settled_for c.who (with_item Right (Some p) lists) _ _ _ (Members c.block)
+        (rw own at (right_next e false (rw own)))
         (rw w.right_open (foreign_packet c.block c.held.first (c.held.second ++ p ∷ []) p lists.left_ended c.left_end
         (λ e. w.left_open ∙ ap is_none e) none (Contains-push c.held.second p))) in
         let apart : Members c.block ≡ Alike → ⊥ = λ a. cc in
         search (arith, s, counted s.right p hear, all, apart)
-
-    right_settled : (v : Verdict) → c.wants ≡ Right → is_own_write p ≡ true → is_third c.right.last p ≡ false
-        → IsVerdictAtEnds c.block c.held.first c.left_end c.held.second (Some p) v → ComparerRepresents
-        (record c { wants = Done v; right = with_heard c.right p }) (with_item Right (Some p) lists)
-    right_settled v e own apart verdict =
-        let up = rw own at (right_next e false (rw (own, apart))) in
-        let done = settled (stage_of s e) (lists.right ++ p ∷ []) lists.right_ended (Some p) v verdict (λ e. cc) up in
-        search (s, counted s.right p hear, done)
-
-    right_begun : c.wants ≡ Right → is_own_write p ≡ true → is_third c.right.last p ≡ false
-        → AlikeBlocks c.held.first c.held.second → EndAlike c.left_end (Some p) → ComparerRepresents
-        (record c { held = nothing_held; block = c.block + 1; wants = Left; right = with_heard c.right p })
-        (with_item Right (Some p) lists)
-    right_begun e own apart alike ends =
-        let w = stage_of s e in
-        let begun = up_to_next c.left_end c.block (cut_for c.who lists.left) (cut_for c.who (lists.right ++ p ∷ []))
-        c.held.first c.held.second p (rw own at (right_next e false (rw (own, apart)))) alike ends in
-        search (arith, s, w, counted s.right p hear, rw (← add-one c.block) at begun.1, w.left_open ∙ begun.0)
 
 pub becomes : {c next : Comparison} {w : Wants} {item : Option Packet} → c.wants ≡ w → next.who ≡ c.who
     → ((lists : Lists) → ComparerRepresents c lists → ComparerRepresents next (with_item w item lists))
@@ -235,10 +214,15 @@ becomes e who stands = record { same_who = who; stands = λ lists s. rw e (stand
 pub right_ended : {c next : Comparison} (p : Packet) → c.wants ≡ Right → hears c.who p ≡ true → is_own_write p ≡ true
     → is_third c.right.last p ≡ false → EndsRight c (Some p) next
     → BecomesBy c (Some p) (record next { right = with_heard next.right p })
-right_ended p e hear own apart (inl (v, verdict, is)) =
-    rw is (becomes e refl (λ lists s. right_settled s p hear v e own apart verdict))
-right_ended p e hear own apart (inr (alike, ends, is)) =
-    rw is (becomes e refl (λ lists s. right_begun s p hear e own apart alike ends))
+right_ended p e hear own apart (inl (v, verdict, is)) = rw is (becomes e refl (λ lists s.
+    let up = rw own at (right_next s p hear e false (rw (own, apart))) in
+    let done = settled (stage_of s e) (lists.right ++ p ∷ []) lists.right_ended (Some p) v verdict (λ e. cc) up in
+    search (s, counted s.right p hear, done)))
+right_ended {c = c} p e hear own apart (inr (alike, ends, is)) = rw is (becomes e refl (λ lists s.
+    let w = stage_of s e in
+    let up = rw own at (right_next s p hear e false (rw (own, apart))) in
+    let begun = up_to_next c.left_end _ _ _ _ _ p up alike ends in
+    search (arith, s, w, counted s.right p hear, rw (← add-one c.block) at begun.1, w.left_open ∙ begun.0)))
 
 -- the end of the right list, which settles the verdict
 pub right_list_ended : {c next : Comparison} → c.wants ≡ Right → EndsRight c None next → BecomesBy c None next
@@ -252,8 +236,7 @@ pub block_given : {c : Comparison} {lists : Lists} → ComparerRepresents c list
 block_given {c = c} {lists = lists} s e = omega (
   arith,
   s.right.given,
-  up_to_fits c.block (cut_for c.who lists.left) (cut_for c.who lists.right) (open_cut c.held.first c.left_end)
-      (LastBlock c.held.second) (stage_of s e).up_to,
+  up_to_fits _ _ _ _ _ (stage_of s e).up_to,
   cut_fits c.who lists.right,
 )
 
@@ -273,13 +256,9 @@ held_fits c lists going left right s = by_wants c.wants s.stage going
 
     fits : (end : Option Packet) {ended : Bool} → HasNoVerdict c lists end ended → HeldFits c lists
     fits end w =
-        let x = cut_for c.who lists.left in
-        let y = cut_for c.who lists.right in
-        let u = open_cut c.held.first end in
-        let few = up_to_fits c.block x y u (LastBlock c.held.second) w.up_to in
-        let all = open_behind c.block x y u (LastBlock c.held.second) w.up_to in (
+        let few = up_to_fits _ _ _ _ _ w.up_to in (
           omega (arith, few, held end, s.left.given, s.right.given, cut_fits c.who lists.left, cut_fits c.who lists.right),
-          (held end).1 ∙ sym all,
+          (held end).1 ∙ sym (open_behind _ _ _ _ _ w.up_to),
         )
 
     by_wants : (w : Wants) → Stage w c lists → ((v : Verdict) → w ≡ Done v → ⊥) → HeldFits c lists
