@@ -27,7 +27,6 @@ use Rattle.dcc_order.specs.OneMore.{ends_with_two}
 use Rattle.dcc_order.specs.GivenLists.{Lists, with_item, IsVerdictOfAll, writes_in, open_blocks_len, most_held}
 use Rattle.dcc_order.specs.Comparisons.{ComparerRepresents, HasCounted, HasNoVerdict, Settled, Stage, AlikeUpTo, open_cut}
 use Rattle.dcc_order.specs.Comparisons.{EndAlike, IsVerdictAtEnds, last_heard, heard_next, nothing_heard, with_heard}
-use Rattle.dcc_order.specs.Held.{nothing_held}
 use Rattle.dcc_order.specs.InStep.{BecomesBy}
 use Rattle.dcc_order.specs.Inner.ComparisonSteps.{EndsRight}
 use Rattle.dcc_order.proofs.AlikeBlocks.{same_tells}

@@ -1,16 +1,8 @@
-use Rattle.std.proofs.Common.{◌≡◌, get_or, arith}
-use Rattle.std.proofs.lemmas.Grind.{common_steps}
+use Rattle.std.proofs.Common.{get_or, arith}
 use Rattle.std.proofs.lemmas.List.{get_or_default}
 use Rattle.std.proofs.lemmas.List.Edits.{map_over_more}
 use Rattle.dcc_order.specs.Turns.{no_turns, own_turn}
 use Rattle.dcc_order.proofs.turns.take_own_turn.Goals as goal
-
-pub with_own-requires : goal.with_own-requires
-with_own-requires c =
-    let i = c.loop-taken.taken-index in
-    let same : get_or c.loop-taken.turns i no_turns ≡ get_or c.args.turns.now i no_turns =
-    rw c.loop-taken.invariant (grind (arith, common_steps)) in
-    rw same (c.requires i no_turns c.loop-taken-test.true)
 
 pub loop-taken-preserved : goal.loop-taken-preserved
 loop-taken-preserved c =
