@@ -1,5 +1,6 @@
 -- What the half of a word at hand says of a capture.
-use Rattle.std.proofs.Common.{◌≡◌, ◌<◌, ◌≤◌, ℕ, suc, zero, take, List, [], ◌∷◌, length, false, eqb, None, Some, Ok, refl, ap, arith}
+use Rattle.std.proofs.Common.{◌≡◌, ◌<◌, ◌≤◌, ℕ, suc, zero, take, List, [], ◌∷◌, length, false, eqb, None, Some, Ok}
+use Rattle.std.proofs.Common.{refl, ap, arith}
 use Rattle.std.proofs.lemmas.Bool.{and_parts, false_from_ne_true, eqb-true}
 use Rattle.std.specs.List.{list_all}
 use Rattle.std.specs.Char.{is_ascii_digit}
@@ -83,7 +84,7 @@ fewer_bytes old new (us ∷ halves) fault takes some =
     omega (arith, later, takes.1.fewer)
 
 -- no word at hand was taken
-pub none_taken : (old new : InputState) (halves : List ℕ) (count : ℕ) → count ≤ 0 → TakesHalves old (take count halves) new
-    → new ≡ old
+pub none_taken : (old new : InputState) (halves : List ℕ) (count : ℕ) → count ≤ 0
+    → TakesHalves old (take count halves) new → new ≡ old
 none_taken old new halves zero few taken = taken
 none_taken old new halves (suc count) few taken = absurd (omega arith)

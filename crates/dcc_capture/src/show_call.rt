@@ -67,7 +67,14 @@ fn list<R: Source, W: Sink>(
         let count = take_buffered_halves(input, &mut halves);
         if count > 0 {
             let before = most - input.halves_left() - count as u32;
-            hold_halves(&mut framer, &halves[..count], before, &mut held, words, writer)?;
+            hold_halves(
+                &mut framer,
+                &halves[..count],
+                before,
+                &mut held,
+                words,
+                writer,
+            )?;
             continue;
         }
         match next_listed_run(input, &mut held, writer)? {

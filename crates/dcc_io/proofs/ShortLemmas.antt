@@ -1,6 +1,8 @@
 -- Short words at the beginning of the buffered bytes are taken one after the other.
-use Rattle.std.proofs.Common.{◌≡◌, ℕ, ◌+◌, ◌-◌, ◌<◌, ◌≤◌, ◌^◌, set, List, [], ◌∷◌, ◌++◌, take, drop, get_or, length, true, false, cond}
-use Rattle.std.proofs.Common.{Bool, None, Option, Some, append_assoc, take-append-drop, refl, sym, ap, ◌∙◌, arith, length-drop, subst, eqb, inl, inr}
+use Rattle.std.proofs.Common.{◌≡◌, ℕ, ◌+◌, ◌-◌, ◌<◌, ◌≤◌, ◌^◌, set, List, [], ◌∷◌, ◌++◌, take, drop, get_or, length}
+use Rattle.std.proofs.Common.{true, false, cond}
+use Rattle.std.proofs.Common.{Bool, None, Option, Some, append_assoc, take-append-drop, refl, sym, ap, ◌∙◌, arith}
+use Rattle.std.proofs.Common.{length-drop, subst, eqb, inl, inr}
 use Rattle.std.proofs.lemmas.List.{append_cancel_left, drop-drop, length-set, take_all, take_more_set}
 use Rattle.std.specs.Io.KnownBytes.{Consumes, prepend_known}
 use Rattle.dcc_io.specs.declared.word.ShortWord.{ShortWord}
@@ -98,11 +100,11 @@ short_passed behind left bytes line last next word spare is at =
     elim is.gap [
       | inl one ↦ rw (at, one.0, one.1) passed
       | inr two ↦
-        let inside = is.inside in
-        let feed = line_feed_behind bytes (is.len + 1) (omega arith, two.3) in
-        let both = Passed-join passed (feed_passed behind left (drop (is.len + 1) bytes) _ line spare feed) in
-        let twice : is.len + 1 + 1 ≡ is.len + 2 = omega arith in
-        rw (at, two.0, two.1) (rw (two.2, drop-drop, twice) at both)
+          let inside = is.inside in
+          let feed = line_feed_behind bytes (is.len + 1) (omega arith, two.3) in
+          let both = Passed-join passed (feed_passed behind left (drop (is.len + 1) bytes) _ line spare feed) in
+          let twice : is.len + 1 + 1 ≡ is.len + 2 = omega arith in
+          rw (at, two.0, two.1) (rw (two.2, drop-drop, twice) at both)
     ]
 
 takes_short : (behind : Behind) (left : ℕ) (bytes : List ℕ) (line last next : ℕ) (word : ShortWord)
@@ -165,7 +167,8 @@ words_next bytes halves line last count len now before next word room some found
           (omega (arith, same, enough)) is at in
           let fewer : left - count - 1 ≡ left - (count + 1) = omega arith in
           rw (take_more_set halves count word.us some)
-          (TakesHalves-more _ _ _ (take count halves) word.us (words.taken behind left spare (omega (arith, same, enough)))
+          (TakesHalves-more _ _ _ (take count halves) word.us
+          (words.taken behind left spare (omega (arith, same, enough)))
           (rw (fewer, drop-drop) at one));
       inside = fits;
       lines = omega (arith, words.lines, next_line, inside.1);

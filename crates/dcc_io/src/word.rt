@@ -2,7 +2,8 @@
 ghost use Rattle.std.specs.Prelude.{◌≡◌, ◌↔◌, ◌<◌, ◌≤◌, min, ℕ, List, [], ◌∷◌, ◌++◌, not, true, ◌==◌, ◌&&◌, IfSome};
 ghost use Rattle.std.specs.Prelude.{IsTrue, false, ◌+◌, ◌||◌, length, nat_lt, slice_index, take, Some};
 ghost use Rattle.dcc_io.specs.Words.{duration_of, is_gap, is_mark, is_some_byte, run_of};
-ghost use Rattle.dcc_io.specs.Inner.FrontWords.{BeginsWithTwoDigits, EndNoLine, HasLineFeedAt, IsFrontWord, IsShortWord, IsWholeWord, EndedWord};
+ghost use Rattle.dcc_io.specs.Inner.FrontWords.{BeginsWithTwoDigits, EndNoLine, HasLineFeedAt, IsFrontWord};
+ghost use Rattle.dcc_io.specs.Inner.FrontWords.{IsShortWord, IsWholeWord, EndedWord};
 
 use crate::digits::Digits;
 use memchr::memchr;

@@ -1,4 +1,4 @@
-//! What a comparison stores of a list, apart from the open block.
+//! The part of a comparison that belongs to one list, without its open block.
 
 ghost use Rattle.std.specs.Prelude.{◌≡◌, ◌<◌, ◌-◌, ◌^◌};
 ghost use Rattle.dcc_order.specs.Comparisons.{nothing_heard, with_heard};

@@ -25,7 +25,8 @@ pub struct Mean {
 }
 
 impl Tally {
-    ghost use Rattle.std.specs.Prelude.{◌≡◌, ◌≢◌, ◌<◌, ◌≤◌, ◌+◌, ◌*◌, ◌^◌, ℕ, List, [], ◌++◌, length, replicate, min, max, IfSome};
+    ghost use Rattle.std.specs.Prelude.{◌≡◌, ◌≢◌, ◌<◌, ◌≤◌, ◌+◌, ◌*◌, ◌^◌, ℕ, List, [], ◌++◌, length, replicate, min};
+    ghost use Rattle.std.specs.Prelude.{max, IfSome};
     ghost use Rattle.dcc_timing.specs.Numbers.{least, most};
     ghost use Rattle.dcc_timing.specs.Tallies.{IsTally, mean};
 

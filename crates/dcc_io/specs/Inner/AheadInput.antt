@@ -3,8 +3,8 @@ use Rattle.std.specs.Prelude.{ℕ, ◌+◌, false, List, Option, None, length}
 use Rattle.std.specs.Io.KnownBytes.{prepend_known}
 use Rattle.dcc_io.specs.InputState.{InputState, closed_text}
 
--- What an input has besides the buffered bytes: the bytes `rest` that its reader still gives, the
--- count of failed reads, and the number of bytes that the limit allows after the buffered bytes.
+-- The parts of an input that follow the buffered bytes: the bytes `rest` that its reader still gives,
+-- the count of failed reads, and the number of further bytes that the limit allows.
 pub record Behind : Type 0 where
   pub rest : Option (List ℕ)
   pub failures : ℕ

@@ -1,5 +1,6 @@
 -- A word at the beginning of a list of bytes.
-use Rattle.std.specs.Prelude.{◌≡◌, ℕ, ◌+◌, Bool, ◌<◌, ◌≤◌, min, List, true, false, not, Some, ◌==◌, ◌||◌, ◌⊎◌, length, take}
+use Rattle.std.specs.Prelude.{◌≡◌, ℕ, ◌+◌, Bool, ◌<◌, ◌≤◌, min, List, true, false, not, Some, ◌==◌, ◌||◌, ◌⊎◌, length}
+use Rattle.std.specs.Prelude.{take}
 use Rattle.std.specs.Prelude.{slice_index_or}
 use Rattle.std.specs.List.{list_all}
 use Rattle.dcc_io.specs.declared.word.FrontWord.{FrontWord}

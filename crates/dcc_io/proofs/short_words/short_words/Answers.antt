@@ -13,11 +13,13 @@ words-init c = record {
 pub words-preserved-in-Some-word_before_space : goal.words-preserved-in-Some-word_before_space
 words-preserved-in-Some-word_before_space c =
     let now = c.words.invariant in
-    let same = length-set c.words.halves c.words.words.count c.in-Some-word_before_space.word.us in
+    let word = c.in-Some-word_before_space.word in
+    let found = c.in-Some-word_before_space.ensures in
+    let same = length-set c.words.halves c.words.words.count word.us in
     let some = c.words-test.true in
     record {
-      words = words_next c.args.bytes.now c.words.halves c.args.line c.args.last _ _ _ _ _ c.in-Some-word_before_space.word
-          c.requires.line c.words-test.true c.in-Some-word_before_space.ensures.word (rw c.in-Some-word_before_space.ensures.ends_line refl) now.words;
+      words = words_next c.args.bytes.now c.words.halves c.args.line c.args.last _ _ _ _ _ word c.requires.line
+          c.words-test.true found.word (rw found.ends_line refl) now.words;
       count = omega (arith, same);
       same_len = same ∙ now.same_len;
     }
