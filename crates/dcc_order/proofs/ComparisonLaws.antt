@@ -25,7 +25,8 @@ use Rattle.dcc_order.specs.AlikeLists.{Cut, LastBlock, Block, without_third_copi
 use Rattle.dcc_order.specs.AlikeLists.{AlikeBlocks}
 use Rattle.dcc_order.specs.OneMore.{ends_with_two}
 use Rattle.dcc_order.specs.GivenLists.{Lists, with_item, IsVerdictOfAll, writes_in, open_blocks_len, most_held}
-use Rattle.dcc_order.specs.Comparisons.{ComparerRepresents, HasCounted, HasNoVerdict, Settled, Stage, AlikeUpTo, open_cut}
+use Rattle.dcc_order.specs.Comparisons.{ComparerRepresents, HasCounted, HasNoVerdict, Settled, Stage}
+use Rattle.dcc_order.specs.Comparisons.{AlikeUpTo, open_cut}
 use Rattle.dcc_order.specs.Comparisons.{EndAlike, IsVerdictAtEnds, last_heard, heard_next, nothing_heard, with_heard}
 use Rattle.dcc_order.specs.InStep.{BecomesBy}
 use Rattle.dcc_order.specs.Inner.ComparisonSteps.{EndsRight}
@@ -109,8 +110,10 @@ up_to_fits : (k : ℕ) (x y u w : Cut) → AlikeUpTo k x y u w
     → (length (flat u) ≤ length (flat x)) × (k + length (flat w) ≤ length (flat y))
 up_to_fits zero x y u w up = rw (up.0, up.1) (omega arith, omega arith)
 up_to_fits (suc k) (Block left write x) (Block right other y) u w up =
-    let fits = up_to_fits k x y u w up.2 in
-    (omega (arith, fits.0, length-append left (write ∷ flat x)), omega (arith, fits.1, length-append right (other ∷ flat y)))
+    let fits = up_to_fits k x y u w up.2 in (
+      omega (arith, fits.0, length-append left (write ∷ flat x)),
+      omega (arith, fits.1, length-append right (other ∷ flat y)),
+    )
 up_to_fits (suc k) x y u w up = absurd up
 
 cut_fits : (who : Who) (l : List Packet) → length (flat (cut_for who l)) ≤ length l
@@ -249,14 +252,23 @@ pub held_fits : (c : Comparison) (lists : Lists) → ((v : Verdict) → c.wants 
 held_fits c lists going left right s = by_wants c.wants s.stage going
   where
     held : (end : Option Packet) → (length c.held.first ≤ length (flat (open_cut c.held.first end)))
-        × (length c.held.first + length c.held.second ≡ open_blocks_len (open_cut c.held.first end) (LastBlock c.held.second))
+        × (length c.held.first + length c.held.second
+        ≡ open_blocks_len (open_cut c.held.first end) (LastBlock c.held.second))
     held None = (omega arith, refl)
     held (Some write) = (omega (arith, length-append c.held.first (write ∷ [])), refl)
 
     fits : (end : Option Packet) {ended : Bool} → HasNoVerdict c lists end ended → HeldFits c lists
     fits end w =
         let few = up_to_fits _ _ _ _ _ w.up_to in (
-          omega (arith, few, held end, s.left.given, s.right.given, cut_fits c.who lists.left, cut_fits c.who lists.right),
+          omega (
+            arith,
+            few,
+            held end,
+            s.left.given,
+            s.right.given,
+            cut_fits c.who lists.left,
+            cut_fits c.who lists.right,
+          ),
           (held end).1 ∙ sym (open_behind _ _ _ _ _ w.up_to),
         )
 

@@ -52,7 +52,8 @@ module _ {members more : List Packet} {n : ℕ} {x : Packet} (g : Grows members 
       ∙ rw (packets_more ns all, stands_at more x Idle (rw g.number g.inside), g.number) refl
 
 module _ {members : List Packet} {numbers others : List ℕ} {before : Held} (found : ℕ → Option ℕ) (x : Packet)
-    (key count number : ℕ) (size : count ≡ length members) (held : AreHeld members numbers others) (view_is : blocks_numbered members numbers others ≡ before)
+    (key count number : ℕ) (size : count ≡ length members) (held : AreHeld members numbers others)
+    (view_is : blocks_numbered members numbers others ≡ before)
     (index : IsIndex found members) (frame : IsFrame (spelling x)) (is : key ≡ frame_number (spelling x))
     (told : number ≡ unwrap_or (found key) count) where
   its_number : number ≡ member_number members x
@@ -66,7 +67,7 @@ module _ {members : List Packet} {numbers others : List ℕ} {before : Held} (fo
   pub is_foreign : number ≡ count → Contains before.first x → ⊥
   is_foreign e h =
       let m = (held.each_once.same_set x).1 (subst (λ (v : Held). Contains v.first x) (sym view_is) h) in
-      let place : member_number members x ≡ m.0 = ap (member_number members) (sym m.2) ∙ held.each_once.once m.0 x m.1 in
+      let place = ap (member_number members) (sym m.2) ∙ held.each_once.once m.0 x m.1 in
       omega (arith, place, its_number, size, m.1)
 
   -- a packet of the second block that is a member

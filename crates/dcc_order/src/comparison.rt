@@ -131,12 +131,12 @@ impl Comparison {
             self.right.given += 1;
             return Ok(());
         }
-        if !is_own_write(packet) {
-            if !self.held.push_second(packet)? {
-                self.wants = Wants::Done(Verdict::Members(self.block));
+        if is_own_write(packet) {
+            if !self.right.last.was_twice(packet) {
+                self.end_right(&Some(*packet));
             }
-        } else if !self.right.last.was_twice(packet) {
-            self.end_right(&Some(*packet));
+        } else if !self.held.push_second(packet)? {
+            self.wants = Wants::Done(Verdict::Members(self.block));
         }
         self.right.hear(packet);
         Ok(())

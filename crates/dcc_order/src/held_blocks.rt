@@ -79,15 +79,17 @@ impl HeldBlocks {
         let frame = number_of_frame(packet);
         let count = self.members.len();
         let number = number_at(&self.index, frame, count);
-        self.numbers.reserve(1)?;
-        if number == count {
-            let members = count.saturating_add(1);
-            self.turns.reserve(members)?;
-            self.other_turns.reserve(members)?;
-            self.members.reserve(1)?;
-            self.index.insert(frame, number)?;
-            self.members.push_reserved(*packet);
+        if number != count {
+            self.numbers.push(number)?;
+            return Ok(());
         }
+        let members = count.saturating_add(1);
+        self.turns.reserve(members)?;
+        self.other_turns.reserve(members)?;
+        self.members.reserve(1)?;
+        self.numbers.reserve(1)?;
+        self.index.insert(frame, number)?;
+        self.members.push_reserved(*packet);
         self.numbers.push_reserved(number);
         Ok(())
     }

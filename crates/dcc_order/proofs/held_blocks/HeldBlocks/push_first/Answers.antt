@@ -3,57 +3,54 @@ use Rattle.std.specs.Ordering.{nat_cmp}
 use Rattle.std.specs.BTreeMap.{get}
 use Rattle.dcc_order.proofs.HeldLaws.{push_known, push_new, index_new}
 use Rattle.dcc_order.proofs.held_blocks.HeldBlocks.push_first.Goals as goal
-use Rattle.dcc_order.proofs.held_blocks.HeldBlocks.push_first.Goals.{then-number-count+in_ok-reserve-2+in_ok-reserve-3+in_ok-reserve-4+in_ok-insert}
-use Rattle.dcc_order.proofs.held_blocks.HeldBlocks.push_first.Goals.{else-number-count}
+
+pub invariant_of-self-then-number-count : goal.invariant_of-self-then-number-count
+invariant_of-self-then-number-count c =
+    let frame = c.number_of_frame-frame.ensures in
+    let size = c.len-count.ensures ∙ c.self.inside.members.ok.0 in
+    let all = push_known (get nat_cmp c.self.inside.index) c.args.packet.now _ _ _ size c.self.invariant.0
+    c.self.view_is c.self.invariant.1 frame.valid frame.number c.number_at-number.ensures c.if-number-count.true in
+    (rw c.in_ok-push.ensures.items all.0, c.self.invariant.1, c.self.invariant.2, c.self.invariant.3)
 
 pub invariant_of-self-2 : goal.invariant_of-self-2
 invariant_of-self-2 c =
     let frame = c.number_of_frame-frame.ensures in
     let size = c.len-count.ensures ∙ c.self.inside.members.ok.0 in
-    elim c.if-number-count.branch [
-      | then-number-count+in_ok-reserve-2+in_ok-reserve-3+in_ok-reserve-4+in_ok-insert w ↦
-          let all = push_new (get nat_cmp c.self.inside.index) c.args.packet.now _ _ _ size c.self.invariant.0 c.self.view_is
-          c.self.invariant.1 frame.valid frame.number c.number_at-number.ensures w.if-number-count.true in
-          let index = index_new (get nat_cmp c.self.inside.index) c.args.packet.now _ _ _ size c.self.invariant.0 c.self.view_is
-          c.self.invariant.1 frame.valid frame.number c.number_at-number.ensures w.if-number-count.true (get nat_cmp w.insert.new.self)
-          w.in_ok-insert.ensures.updates.0 in
-          let len = w.push_reserved.ensures.len in
-          rw (
-            c.push_reserved-2.ensures.items,
-            w.self-inside-is,
-            c.in_ok-reserve.ensures.items,
-            w.push_reserved.ensures.items,
-            w.in_ok-reserve-4.ensures.items,
-          ) (
-            all.0,
-            index,
-            omega (arith, len, w.in_ok-reserve-4.ensures.len, w.saturating_add-members.ensures, w.in_ok-reserve-2.ensures.ok),
-            omega (arith, len, w.in_ok-reserve-4.ensures.len, w.saturating_add-members.ensures, w.in_ok-reserve-3.ensures.ok),
-          )
-      | else-number-count w ↦
-          let all = push_known (get nat_cmp c.self.inside.index) c.args.packet.now _ _ _ size c.self.invariant.0 c.self.view_is
-          c.self.invariant.1 frame.valid frame.number c.number_at-number.ensures w.if-number-count.false in
-          rw (c.push_reserved-2.ensures.items, w.self-inside-is, c.in_ok-reserve.ensures.items)
-          (all.0, c.self.invariant.1, c.self.invariant.2, c.self.invariant.3)
-    ]
+    let all = push_new (get nat_cmp c.self.inside.index) c.args.packet.now _ _ _ size c.self.invariant.0
+    c.self.view_is c.self.invariant.1 frame.valid frame.number c.number_at-number.ensures c.if-number-count.false in
+    let index = index_new (get nat_cmp c.self.inside.index) c.args.packet.now _ _ _ size c.self.invariant.0
+    c.self.view_is c.self.invariant.1 frame.valid frame.number c.number_at-number.ensures c.if-number-count.false (get nat_cmp c.insert.new.self)
+    c.in_ok-insert.ensures.updates.0 in
+    let len = c.push_reserved.ensures.len in
+    rw (
+      c.push_reserved-2.ensures.items,
+      c.in_ok-reserve-4.ensures.items,
+      c.push_reserved.ensures.items,
+      c.in_ok-reserve-3.ensures.items,
+    ) (
+      all.0,
+      index,
+      omega (arith, len, c.in_ok-reserve-3.ensures.len, c.saturating_add-members.ensures, c.in_ok-reserve.ensures.ok),
+      omega (arith, len, c.in_ok-reserve-3.ensures.len, c.saturating_add-members.ensures, c.in_ok-reserve-2.ensures.ok),
+    )
+
+pub returns-then-number-count-clause-ok : goal.returns-then-number-count-clause-ok
+returns-then-number-count-clause-ok c =
+    let frame = c.number_of_frame-frame.ensures in
+    let size = c.len-count.ensures ∙ c.self.inside.members.ok.0 in
+    let all = push_known (get nat_cmp c.self.inside.index) c.args.packet.now _ _ _ size c.self.invariant.0
+    c.self.view_is c.self.invariant.1 frame.valid frame.number c.number_at-number.ensures c.if-number-count.true in
+    rw c.in_ok-push.ensures.items all.1
 
 pub returns-clause-ok : goal.returns-clause-ok
 returns-clause-ok c =
     let frame = c.number_of_frame-frame.ensures in
     let size = c.len-count.ensures ∙ c.self.inside.members.ok.0 in
-    elim c.if-number-count.branch [
-      | then-number-count+in_ok-reserve-2+in_ok-reserve-3+in_ok-reserve-4+in_ok-insert w ↦
-          let all = push_new (get nat_cmp c.self.inside.index) c.args.packet.now _ _ _ size c.self.invariant.0 c.self.view_is
-          c.self.invariant.1 frame.valid frame.number c.number_at-number.ensures w.if-number-count.true in
-          rw (
-            c.push_reserved-2.ensures.items,
-            w.self-inside-is,
-            c.in_ok-reserve.ensures.items,
-            w.push_reserved.ensures.items,
-            w.in_ok-reserve-4.ensures.items,
-          ) all.1
-      | else-number-count w ↦
-          let all = push_known (get nat_cmp c.self.inside.index) c.args.packet.now _ _ _ size c.self.invariant.0 c.self.view_is
-          c.self.invariant.1 frame.valid frame.number c.number_at-number.ensures w.if-number-count.false in
-          rw (c.push_reserved-2.ensures.items, w.self-inside-is, c.in_ok-reserve.ensures.items) all.1
-    ]
+    let all = push_new (get nat_cmp c.self.inside.index) c.args.packet.now _ _ _ size c.self.invariant.0
+    c.self.view_is c.self.invariant.1 frame.valid frame.number c.number_at-number.ensures c.if-number-count.false in
+    rw (
+      c.push_reserved-2.ensures.items,
+      c.in_ok-reserve-4.ensures.items,
+      c.push_reserved.ensures.items,
+      c.in_ok-reserve-3.ensures.items,
+    ) all.1
