@@ -1,8 +1,4 @@
-<<<<<<< HEAD
-//! The part of a comparison that belongs to one list, without its open block.
-=======
 //! The number of packets that were given of a list, and the packets that were heard last.
->>>>>>> 96fc54cb (Lines of proofs that a screen shows whole, and generated pages)
 
 ghost use Rattle.std.specs.Prelude.{◌≡◌, ◌<◌, ◌-◌, ◌^◌};
 ghost use Rattle.dcc_order.specs.Comparisons.{nothing_heard, with_heard};
