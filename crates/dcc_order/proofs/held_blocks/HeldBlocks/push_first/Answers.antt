@@ -19,7 +19,8 @@ invariant_of-self-2 c =
     let all = push_new (get nat_cmp c.self.inside.index) c.args.packet.now _ _ _ size c.self.invariant.0
     c.self.view_is c.self.invariant.1 frame.valid frame.number c.number_at-number.ensures c.if-number-count.false in
     let index = index_new (get nat_cmp c.self.inside.index) c.args.packet.now _ _ _ size c.self.invariant.0
-    c.self.view_is c.self.invariant.1 frame.valid frame.number c.number_at-number.ensures c.if-number-count.false (get nat_cmp c.insert.new.self)
+    c.self.view_is c.self.invariant.1 frame.valid frame.number c.number_at-number.ensures c.if-number-count.false
+    (get nat_cmp c.insert.new.self)
     c.in_ok-insert.ensures.updates.0 in
     let len = c.push_reserved.ensures.len in
     rw (
