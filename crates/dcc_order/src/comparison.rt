@@ -27,8 +27,8 @@ pub struct Comparison {
     pub block: u32,
     pub left: GivenList,
     pub right: GivenList,
-    /// The write that ended the left block. If the comparison waits for the right list, `None`
-    /// means that the left list has ended.
+    /// If the comparison waits for the right list, the write that ended the left block. `None` means
+    /// that the left list has ended.
     pub left_end: Option<Packet>,
     pub held: HeldBlocks,
 }
