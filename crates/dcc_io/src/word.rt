@@ -229,10 +229,14 @@ pub fn word_before_line_end(bytes: &[u8], us: u16) -> Option<ShortWord>
     ensures word { IfSome result (λ word. IsShortWord bytes.now word) }
     ensures ends_line { IfSome result (λ word. word.ends_line ≡ true) }
 {
-    if is_digit(bytes[2]) {
-        return with_line_end(bytes, us * 10 + u16::from(bytes[2] - b'0'), 3);
+    let behind = bytes[2];
+    if behind == b'\n' || behind == b'\r' {
+        return with_line_end(bytes, us, 2);
     }
-    with_line_end(bytes, us, 2)
+    if !is_digit(behind) {
+        return None;
+    }
+    with_line_end(bytes, us * 10 + u16::from(behind - b'0'), 3)
 }
 
 /// Returns the word of `len` digits at the beginning of `bytes`, which means the duration `us`, if a
