@@ -1,10 +1,11 @@
 -- The lines of half-bits that are at hand.
-use Rattle.std.proofs.Common.{◌≡◌, ℕ, ◌+◌, ◌-◌, ◌<◌, ◌≤◌, List, [], ◌∷◌, ◌++◌, length, take, drop, get_or, Bool, Ok}
+use Rattle.std.proofs.Common.{◌≡◌, ℕ, ◌+◌, ◌-◌, ◌≤◌, List, [], ◌++◌, length, take, drop, Bool, Ok}
 use Rattle.std.proofs.Common.{Err}
 use Rattle.std.proofs.Common.{refl, sym, ap, ◌∙◌, arith, append_assoc, length-append, take-append-drop}
-use Rattle.std.proofs.lemmas.List.{append-nil, length-take-le, take_more, take_all}
+use Rattle.std.proofs.lemmas.List.{append-nil, length-drop, length-take, length-take-le, take_all}
 use Rattle.dcc_wire.specs.declared.seen.Seen.{Seen}
 use Rattle.dcc_wire.specs.Framing.{seen, report_at}
+use Rattle.dcc_wire.proofs.ListLemmas.{take_both}
 use Rattle.dcc_io.specs.declared.stream.Failed.{Failed}
 use Rattle.dcc_io.specs.Counted.{TakesHalves}
 use Rattle.dcc_io.specs.InputState.{InputState}
@@ -39,38 +40,44 @@ holds_nothing words durations before held = record {
   failures = refl;
 }
 
-pub next_taken : (durations halves : List ℕ) (i : ℕ) → i < length halves
-    → durations ++ take (i + 1) halves ≡ (durations ++ take i halves) ++ get_or halves i 0 ∷ []
-next_taken durations halves i inside =
-    rw (take_more halves i 0 inside) (sym (append_assoc durations (take i halves) (get_or halves i 0 ∷ [])))
+-- the half-bits after the first `i` half-bits of a list
+abbrev pub rest_from : List ℕ → ℕ → List ℕ
+rest_from halves i = take (length halves - i) (drop i halves)
 
-pub place_of : (durations halves : List ℕ) (i before : ℕ) → i < length halves → before ≡ length durations
-    → before + i + 1 ≡ length (durations ++ take i halves) + 1
-place_of durations halves i before inside same =
-    omega (arith, length-append durations (take i halves), length-take-le i halves)
+pub next_taken : (durations halves : List ℕ) (i k : ℕ)
+    → durations ++ take (i + k) halves ≡ (durations ++ take i halves) ++ take k (rest_from halves i)
+next_taken durations halves i k = take_both halves i k durations
 
--- the outcome of the half-bit at the place `i`
-abbrev outcome_next : List ℕ → List ℕ → ℕ → Seen → List (ℕ × Seen)
-outcome_next durations halves i outcome = report_at (length (durations ++ take i halves)) outcome
+pub place_of : (durations halves : List ℕ) (i k before : ℕ) → 1 ≤ k → i ≤ length halves → before ≡ length durations
+    → before + (i + k) ≡ length (durations ++ take i halves) + k - 1 + 1
+place_of durations halves i k before some inside same =
+    omega (arith, length-append durations (take i halves), length-take-le i halves, some, inside, same)
 
-module _ {words : Bool} {first mid : WriterState} {held kept : List ℕ} (durations halves : List ℕ) (i : ℕ)
-    (outcome : Seen) (inside : i < length halves)
-    (sees : seen ((durations ++ take i halves) ++ get_or halves i 0 ∷ [])
-    ≡ seen (durations ++ take i halves) ++ outcome_next durations halves i outcome)
+pub rest_length : (halves : List ℕ) (i : ℕ) → i ≤ length halves → length (rest_from halves i) ≡ length halves - i
+rest_length halves i inside = omega (arith, length-drop i halves, length-take (length halves - i) (drop i halves))
+
+-- the outcome of the last of the next `k` half-bits
+abbrev outcome_next : List ℕ → List ℕ → ℕ → ℕ → Seen → List (ℕ × Seen)
+outcome_next durations halves i k outcome = report_at (length (durations ++ take i halves) + k - 1) outcome
+
+module _ {words : Bool} {first mid : WriterState} {held kept : List ℕ} (durations halves : List ℕ) (i k : ℕ)
+    (outcome : Seen)
+    (sees : seen ((durations ++ take i halves) ++ take k (rest_from halves i))
+    ≡ seen (durations ++ take i halves) ++ outcome_next durations halves i k outcome)
     (so_far : HoldsSoFar words durations (take i halves) first held kept mid) where
-  adds_next : seen (durations ++ take (i + 1) halves)
-      ≡ seen durations ++ (so_far.items ++ outcome_next durations halves i outcome)
+  adds_next : seen (durations ++ take (i + k) halves)
+      ≡ seen durations ++ (so_far.items ++ outcome_next durations halves i k outcome)
   adds_next =
-      rw (next_taken durations halves i inside)
-      (sees ∙ ap (λ items. items ++ outcome_next durations halves i outcome) so_far.adds
-      ∙ append_assoc (seen durations) so_far.items (outcome_next durations halves i outcome))
+      rw (next_taken durations halves i k)
+      (sees ∙ ap (λ items. items ++ outcome_next durations halves i k outcome) so_far.adds
+      ∙ append_assoc (seen durations) so_far.items (outcome_next durations halves i k outcome))
 
-  -- one more half-bit
+  -- more half-bits
   pub holds_next : {left : List ℕ} {after : WriterState}
-      → HoldsLines (IsLine words) (outcome_next durations halves i outcome) mid kept (Ok tt) left after
-      → HoldsSoFar words durations (take (i + 1) halves) first held left after
+      → HoldsLines (IsLine words) (outcome_next durations halves i k outcome) mid kept (Ok tt) left after
+      → HoldsSoFar words durations (take (i + k) halves) first held left after
   holds_next wrote = record {
-    items = so_far.items ++ outcome_next durations halves i outcome;
+    items = so_far.items ++ outcome_next durations halves i k outcome;
     adds = adds_next;
     text = so_far.text ++ wrote.0;
     lists = AreLines-append (IsLine words) so_far.items _ so_far.text wrote.0 so_far.lists wrote.1;
@@ -78,16 +85,16 @@ module _ {words : Bool} {first mid : WriterState} {held kept : List ℕ} (durati
     failures = wrote.2.1 ∙ so_far.failures;
   }
 
-  -- a write failed at one more half-bit
+  -- a write failed after more half-bits
   pub holds_until : {left : List ℕ} {after : WriterState} (failed : Failed)
-      → HoldsLines (IsLine words) (outcome_next durations halves i outcome) mid kept (Err failed) left after
+      → HoldsLines (IsLine words) (outcome_next durations halves i k outcome) mid kept (Err failed) left after
       → HoldsListing words durations halves first held (Err failed) left after
   holds_until failed wrote = record {
-    some = take (i + 1) halves;
-    rest = drop (i + 1) halves;
-    whole = sym (take-append-drop (i + 1) halves);
+    some = take (i + k) halves;
+    rest = drop (i + k) halves;
+    whole = sym (take-append-drop (i + k) halves);
     all = tt;
-    items = so_far.items ++ outcome_next durations halves i outcome;
+    items = so_far.items ++ outcome_next durations halves i k outcome;
     adds = adds_next;
     holds = (
       so_far.text ++ wrote.0,

@@ -105,9 +105,11 @@ fn hold_halves<W: Sink>(
     ensures holds { (durations : List ℕ) → StandsFor framer.old durations → before ≡ length durations
         → HoldsListing words durations halves.now (W.state writer.old) held.old result held.new (W.state writer.new) }
 {
-    for (i, us) in halves.iter().enumerate() {
-        let seen = framer.push(*us);
-        hold_seen(held, before + i as u32 + 1, &seen, words, writer)?;
+    let mut taken = 0;
+    'halves: while taken < halves.len() {
+        let shown = framer.push_many(&halves[taken..]);
+        taken += shown.at;
+        hold_seen(held, before + taken as u32, &shown.seen, words, writer)?;
     }
     Ok(())
 }

@@ -128,7 +128,7 @@ pub fn word_of_two(bytes: &[u8]) -> Option<FrontWord>
         return None;
     }
     Some(FrontWord {
-        us,
+        us: us as u16,
         len: 2,
         ends_line: bytes[2] == b'\n',
     })
@@ -145,7 +145,7 @@ pub fn word_of_three(bytes: &[u8]) -> Option<FrontWord>
         return None;
     }
     Some(FrontWord {
-        us,
+        us: us as u16,
         len: 3,
         ends_line: bytes[3] == b'\n',
     })
@@ -162,7 +162,7 @@ pub fn short_word_before_cr_lf(bytes: &[u8]) -> Option<FrontWord>
     let us = two_digits(bytes)?;
     if is_cr(bytes[2]) && bytes[3] == b'\n' {
         return Some(FrontWord {
-            us,
+            us: us as u16,
             len: 2,
             ends_line: false,
         });
@@ -170,7 +170,7 @@ pub fn short_word_before_cr_lf(bytes: &[u8]) -> Option<FrontWord>
     let us = three_digits(bytes)?;
     if is_cr(bytes[3]) && bytes.len() > 4 && bytes[4] == b'\n' {
         return Some(FrontWord {
-            us,
+            us: us as u16,
             len: 3,
             ends_line: false,
         });
@@ -194,7 +194,7 @@ pub struct ShortWord {
 /// Returns the number in the first two bytes, if `bytes` has at least five bytes and these two are
 /// digits.
 #[inline(always)]
-pub fn first_two_digits(bytes: &[u8]) -> Option<u16>
+pub fn first_two_digits(bytes: &[u8]) -> Option<u32>
     ensures { IfSome result (λ us. BeginsWithTwoDigits bytes.now us) }
 {
     if bytes.len() < 5 {
@@ -206,7 +206,7 @@ pub fn first_two_digits(bytes: &[u8]) -> Option<u16>
 /// Returns the word of two or three digits at the beginning of `bytes`, if a space follows it. The
 /// parameter `us` is the number in the first two digits.
 #[inline(always)]
-pub fn word_before_space(bytes: &[u8], us: u16) -> Option<ShortWord>
+pub fn word_before_space(bytes: &[u8], us: u32) -> Option<ShortWord>
     requires { BeginsWithTwoDigits bytes.now us }
     ensures word { IfSome result (λ word. IsShortWord bytes.now word) }
     ensures ends_line { IfSome result (λ word. word.ends_line ≡ false) }
@@ -215,16 +215,14 @@ pub fn word_before_space(bytes: &[u8], us: u16) -> Option<ShortWord>
     if third == b' ' {
         return with_space(bytes, us, 2);
     }
-    if !is_digit(third) {
-        return None;
-    }
-    with_space(bytes, us * 10 + u16::from(third - b'0'), 3)
+    let ones = digit(third)?;
+    with_space(bytes, us * 10 + ones, 3)
 }
 
 /// Returns the word of two or three digits at the beginning of `bytes`, if a line feed or CR LF
 /// follows it. The parameter `us` is the number in the first two digits.
 #[inline(always)]
-pub fn word_before_line_end(bytes: &[u8], us: u16) -> Option<ShortWord>
+pub fn word_before_line_end(bytes: &[u8], us: u32) -> Option<ShortWord>
     requires { BeginsWithTwoDigits bytes.now us }
     ensures word { IfSome result (λ word. IsShortWord bytes.now word) }
     ensures ends_line { IfSome result (λ word. word.ends_line ≡ true) }
@@ -233,18 +231,17 @@ pub fn word_before_line_end(bytes: &[u8], us: u16) -> Option<ShortWord>
     if behind == b'\n' || behind == b'\r' {
         return with_line_end(bytes, us, 2);
     }
-    if !is_digit(behind) {
-        return None;
-    }
-    with_line_end(bytes, us * 10 + u16::from(behind - b'0'), 3)
+    let ones = digit(behind)?;
+    with_line_end(bytes, us * 10 + ones, 3)
 }
 
 /// Returns the word of `len` digits at the beginning of `bytes`, which means the duration `us`, if a
 /// space follows it.
 #[inline(always)]
 #[tactic(auto, unfolding(crate::specs::Words::is_gap))]
-fn with_space(bytes: &[u8], us: u16, len: usize) -> Option<ShortWord>
+fn with_space(bytes: &[u8], us: u32, len: usize) -> Option<ShortWord>
     requires inside { len + 1 < length bytes.now }
+    requires small { us < 1000 }
     requires spells { duration_of (take len bytes.now) ≡ Some us }
     ensures word { IfSome result (λ word. IsShortWord bytes.now word) }
     ensures ends_line { IfSome result (λ word. word.ends_line ≡ false) }
@@ -253,7 +250,7 @@ fn with_space(bytes: &[u8], us: u16, len: usize) -> Option<ShortWord>
         return None;
     }
     Some(ShortWord {
-        us,
+        us: us as u16,
         len: len + 1,
         ends_line: false,
     })
@@ -263,15 +260,16 @@ fn with_space(bytes: &[u8], us: u16, len: usize) -> Option<ShortWord>
 /// line feed or CR LF follows it.
 #[inline(always)]
 #[tactic(auto, unfolding(crate::specs::Words::is_gap))]
-fn with_line_end(bytes: &[u8], us: u16, len: usize) -> Option<ShortWord>
+fn with_line_end(bytes: &[u8], us: u32, len: usize) -> Option<ShortWord>
     requires inside { len + 1 < length bytes.now }
+    requires small { us < 1000 }
     requires spells { duration_of (take len bytes.now) ≡ Some us }
     ensures word { IfSome result (λ word. IsShortWord bytes.now word) }
     ensures ends_line { IfSome result (λ word. word.ends_line ≡ true) }
 {
     if bytes[len] == b'\n' {
         return Some(ShortWord {
-            us,
+            us: us as u16,
             len: len + 1,
             ends_line: true,
         });
@@ -280,7 +278,7 @@ fn with_line_end(bytes: &[u8], us: u16, len: usize) -> Option<ShortWord>
         return None;
     }
     Some(ShortWord {
-        us,
+        us: us as u16,
         len: len + 2,
         ends_line: true,
     })
@@ -289,27 +287,41 @@ fn with_line_end(bytes: &[u8], us: u16, len: usize) -> Option<ShortWord>
 /// Returns the number in the first two bytes, if `bytes` has at least four bytes and these two are
 /// digits.
 #[inline(always)]
-fn two_digits(bytes: &[u8]) -> Option<u16>
+fn two_digits(bytes: &[u8]) -> Option<u32>
     ensures number { IfSome result (λ us. (4 ≤ length bytes.now) × (duration_of (take 2 bytes.now) ≡ Some us)) }
     ensures small { IfSome result (λ us. us < 100) }
 {
-    if bytes.len() < 4 || !is_digit(bytes[0]) || !is_digit(bytes[1]) {
+    if bytes.len() < 4 {
         return None;
     }
-    Some(u16::from(bytes[0] - b'0') * 10 + u16::from(bytes[1] - b'0'))
+    let tens = digit(bytes[0])?;
+    let ones = digit(bytes[1])?;
+    Some(tens * 10 + ones)
 }
 
 /// Returns the number in the first three bytes, if `bytes` has at least four bytes and these three
 /// are digits.
 #[inline(always)]
-fn three_digits(bytes: &[u8]) -> Option<u16>
-    ensures { IfSome result (λ us. (4 ≤ length bytes.now) × (duration_of (take 3 bytes.now) ≡ Some us)) }
+fn three_digits(bytes: &[u8]) -> Option<u32>
+    ensures number { IfSome result (λ us. (4 ≤ length bytes.now) × (duration_of (take 3 bytes.now) ≡ Some us)) }
+    ensures small { IfSome result (λ us. us < 1000) }
 {
     let tens = two_digits(bytes)?;
-    if !is_digit(bytes[2]) {
+    let ones = digit(bytes[2])?;
+    Some(tens * 10 + ones)
+}
+
+/// Returns the value of a decimal digit. Returns `None` for any other byte. The range is tested on the
+/// wide number, so that the compiler subtracts 48 once.
+#[inline(always)]
+fn digit(byte: u8) -> Option<u32>
+    ensures { IfSome result (λ digit. (byte ≡ digit + 48) × (digit ≤ 9)) }
+{
+    let code = u32::from(byte);
+    if code < 48 || 57 < code {
         return None;
     }
-    Some(tens * 10 + u16::from(bytes[2] - b'0'))
+    Some(code - 48)
 }
 
 /// Returns true if a byte is a decimal digit.

@@ -25,6 +25,9 @@ mod timing_call;
 mod timing_text;
 mod verdict_line;
 
+/// The number of half-bits that an operation reads at once.
+const AT_ONCE: usize = 256;
+
 pub use lost_call::lost;
 pub use plain_call::show_plain;
 pub use run_call::run;

@@ -4,10 +4,11 @@ ghost use Rattle.dcc_io.specs.Faults.{as_tool_fault};
 ghost use Rattle.dcc_listen.specs.FleetRun.{Runs};
 ghost use Rattle.dcc_io.specs.InputState.{ReadHasFailure};
 
+use crate::AT_ONCE;
 use dcc_capture::read_run;
-use dcc_io::inputs::take_buffered_half;
+use dcc_io::inputs::take_buffered_halves;
 use dcc_io::{Input, Sink, Source, ToolFault};
-use dcc_order::{hear_half, hear_half_run};
+use dcc_order::{hear_half_run, hear_piece};
 use dcc_regs::Decoder;
 use dcc_saved::write_fleet;
 use dcc_wire::Framer;
@@ -56,17 +57,18 @@ fn play<R: Source, W: Sink>(
         (map (λ decoder. (who decoder, registers decoder)) decoders.new) input.new (W.state writer.new) }
 {
     let mut framer = Framer::new();
+    let mut halves = [0; AT_ONCE];
     'runs: loop {
-        match take_buffered_half(input) {
-            Some(us) => {
-                let _ = hear_half(decoders, &mut framer, us);
+        let count = take_buffered_halves(input, &mut halves);
+        if count > 0 {
+            hear_piece(decoders, &mut framer, &halves[..count]);
+            continue;
+        }
+        match read_run(input)? {
+            Some(run) => {
+                let _ = hear_half_run(decoders, &mut framer, run.us, run.n);
             }
-            None => match read_run(input)? {
-                Some(run) => {
-                    let _ = hear_half_run(decoders, &mut framer, run.us, run.n);
-                }
-                None => break,
-            },
+            None => break,
         }
     }
     Ok(write_fleet(decoders, writer)?)

@@ -4,14 +4,12 @@ ghost use Rattle.dcc_io.specs.Faults.{as_tool_fault};
 ghost use Rattle.dcc_io.specs.InputState.{ReadHasFailure};
 ghost use Rattle.dcc_listen.specs.Timed.{MeasuresCapture, Times};
 
+use crate::AT_ONCE;
 use crate::timing_text::timing_text;
 use dcc_capture::read_run;
 use dcc_io::inputs::take_buffered_halves;
 use dcc_io::{Input, KeptFault, Sink, Source, ToolFault, write_all};
 use dcc_lost::TrackFigures;
-
-/// The number of half-bits that are read before the statistics take them.
-const AT_ONCE: usize = 256;
 
 /// Writes the statistics of a capture. Each line has a name, and then a number, two limits or the
 /// word `none`. The limits are those of NMRA S-9.1 for a station and for a decoder.

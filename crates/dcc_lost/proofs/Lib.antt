@@ -1,4 +1,5 @@
 pub mod NearestLemmas
+pub mod BodyFigures
 pub mod BodyLemmas
 pub mod FrameLemmas
 pub mod HeardLemmas

@@ -128,7 +128,7 @@ unused_is_least durations = refl
 
 -- half-bits of ones
 
-ones_push : (durations : List ℕ) (us : ℕ)
+pub ones_push : (durations : List ℕ) (us : ℕ)
     → nearest_ones_at_end (durations ++ us ∷ []) ≡ ones_at_end (map nearest_class durations ++ nearest_class us ∷ [])
 ones_push durations us = ap ones_at_end (map-append nearest_class durations (us ∷ []))
 

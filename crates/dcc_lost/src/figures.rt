@@ -108,7 +108,7 @@ impl Ended {
 
 impl TrackFigures {
     ghost use Rattle.std.specs.Prelude.{◌≡◌, ◌<◌, ◌+◌, ◌^◌, ◌++◌, [], ◌∷◌, ℕ, List, min, length, replicate, false};
-    ghost use Rattle.std.specs.Prelude.{◌≢◌, ◌↔◌, IsTrue};
+    ghost use Rattle.std.specs.Prelude.{◌≢◌, ◌≤◌, ◌↔◌, IsTrue, take};
     ghost use Rattle.dcc_wire.specs.Framing.{StandsFor, is_hunting, rest, seen};
     ghost use Rattle.dcc_wire.specs.Kept.{kept_rest};
     ghost use Rattle.dcc_timing.specs.Measures.{Measures};
@@ -174,9 +174,35 @@ impl TrackFigures {
             → MeasuresTrack self.new (durations ++ halves.now) }
         ensures count { self.new.timings.halves ≡ self.old.timings.halves + length halves.now }
     {
-        for (i, us) in halves.iter().enumerate() {
-            self.push(*us);
+        let mut at = 0;
+        'halves: while at < halves.len() {
+            at += self.pass_bits(&halves[at..]);
+            if at < halves.len() {
+                self.push(halves[at]);
+                at += 1;
+            }
         }
+    }
+
+    /// Appends half-bits at the beginning of `halves` that form bits of an unfinished body and do not
+    /// end this body. Returns the number of these half-bits. No packet ends at them, and none of them
+    /// can be in a preamble. The longer list must have fewer than 2^32 half-bits.
+    #[inline(always)]
+    fn pass_bits(&mut self, halves: &[u16]) -> usize
+        requires { self.old.timings.halves + length halves.now < 2 ^ 32 }
+        ensures measures { (durations : List ℕ) → MeasuresTrack self.old durations
+            → MeasuresTrack self.new (durations ++ take result halves.now) }
+        ensures count { self.new.timings.halves ≡ self.old.timings.halves + result }
+        ensures within { result ≤ length halves.now }
+    {
+        let count = self.timings.pass_bits(halves);
+        if count == 0 {
+            return count;
+        }
+        // (a body uses all its half-bits, so the number of unused half-bits stays 0)
+        self.preambles.take(0, count as u32);
+        self.ones = ones_after(self.ones, &halves[..count]);
+        count
     }
 
     /// Appends a half-bit of `us` microseconds to the list.
@@ -405,6 +431,23 @@ fn ones_next(ones: u16, us: u16) -> u16
     } else {
         0
     }
+}
+
+/// Returns the number of half-bits of ones at the end of a list, at most 65535, to which the half-bits
+/// `halves` were appended. Before, the number was `ones`.
+#[inline(always)]
+fn ones_after(ones: u16, halves: &[u16]) -> u16
+    ensures { (durations : List ℕ) → ones ≡ min 65535 (nearest_ones_at_end durations)
+        → result ≡ min 65535 (nearest_ones_at_end (durations ++ halves.now)) }
+{
+    let mut at = halves.len();
+    'ones: while at > 0 {
+        if !is_nearest_one(halves[at - 1]) {
+            return (halves.len() - at).min(65535) as u16;
+        }
+        at -= 1;
+    }
+    ones.saturating_add(halves.len().min(65535) as u16)
 }
 
 /// Returns true if more half-bits of `us` microseconds change no preamble. The numbers `ones` and

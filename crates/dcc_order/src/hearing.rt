@@ -117,7 +117,10 @@ pub fn hear_piece<D: Decoder>(decoders: &mut [D], framer: &mut Framer, durations
     ensures stands { (halves : List ℕ) → StandsFor framer.old halves → StandsFor framer.new (halves ++ durations.now) }
     ensures since { HearMore D.who D.registers framer.old durations.now decoders.old decoders.new }
 {
-    for us in durations {
-        hear_half(decoders, framer, *us);
+    let mut at = 0;
+    'pieces: while at < durations.len() {
+        let shown = framer.push_many(&durations[at..]);
+        hear_seen(decoders, &shown.seen);
+        at += shown.at;
     }
 }

@@ -8,6 +8,9 @@ use Rattle.std.proofs.lemmas.List.{drop-take, take_more_set}
 use Rattle.std.proofs.lemmas.List.Edits.{take-paste}
 use Rattle.std.proofs.lemmas.List.{drop-append-le, drop-drop, drop-replicate, drop_at, length-replicate, replicate_more}
 use Rattle.std.proofs.lemmas.Bool.{cases_lt}
+use Rattle.std.proofs.lemmas.Slice.{take-put_mid}
+use Rattle.std.proofs.Math.Seq.{take-add}
+use borrow.Rule.Slice.PartMut.{put_mid}
 use Rattle.dcc_timing.specs.Numbers.{keep_last}
 
 -- what stood before them does not count
@@ -106,3 +109,27 @@ last_places all part len n to start within few same from e =
     let begin : start ≡ length (take len all) - n = omega (arith, same, from, count) in
     e ∙ sym (drop-take start (to - start) all) ∙ ap (λ k. drop start (take k all)) end
     ∙ ap (λ k. drop k (take len all)) begin ∙ sym (keep_last_keep n 130 (take len all) few)
+
+-- more numbers at the first free places of an array
+pub added_all : (numbers new more mid : List ℕ) (len at k end : ℕ) → at ≡ len → end ≡ at + length more
+    → len + length more ≤ length numbers → mid ≡ more → new ≡ put_mid at k numbers mid
+    → keep_last 130 (take end new) ≡ keep_last 130 (keep_last 130 (take len numbers) ++ more)
+added_all numbers new more mid len at k end is ends within same e =
+    let place : end ≡ at + length mid = rw same ends in
+    let front : take end new ≡ take len numbers ++ more =
+    ap (take end) e ∙ take-put_mid at k numbers mid end place (omega (arith, is, within))
+    ∙ ap (λ n. take n numbers ++ mid) is ∙ ap (λ l. take len numbers ++ l) same in
+    ap (keep_last 130) front ∙ sym (keep_last_behind 130 (take len numbers) more)
+
+-- some of the numbers that follow a list
+pub appended_some : (list numbers before after : List ℕ) (at count end : ℕ) → end ≡ at + count
+    → before ≡ keep_last 130 (list ++ take at numbers)
+    → after ≡ keep_last 130 (before ++ take (end - at) (drop at numbers))
+    → after ≡ keep_last 130 (list ++ take (at + count) numbers)
+appended_some list numbers before after at count end is so takes =
+    let some : end - at ≡ count = omega (arith, is) in
+    takes ∙ ap (λ n. keep_last 130 (before ++ take n (drop at numbers))) some
+    ∙ ap (λ l. keep_last 130 (l ++ take count (drop at numbers))) so
+    ∙ keep_last_behind 130 (list ++ take at numbers) (take count (drop at numbers))
+    ∙ ap (keep_last 130) (append_assoc list (take at numbers) (take count (drop at numbers))
+    ∙ ap (λ l. list ++ l) (sym (take-add at count numbers)))

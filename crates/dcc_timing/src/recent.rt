@@ -15,7 +15,7 @@ pub struct LastNumbers {
 }
 
 impl LastNumbers {
-    ghost use Rattle.std.specs.Prelude.{◌≡◌, ◌≤◌, ◌<◌, ℕ, List, [], ◌∷◌, ◌++◌, replicate};
+    ghost use Rattle.std.specs.Prelude.{◌≡◌, ◌≤◌, ◌<◌, ◌+◌, ℕ, List, [], ◌∷◌, ◌++◌, length, replicate};
     ghost use Rattle.dcc_timing.specs.Numbers.{keep_last};
     ghost use Rattle.dcc_timing.specs.Recent.{recent_numbers};
 
@@ -41,10 +41,19 @@ impl LastNumbers {
     pub fn push(&mut self, number: u16)
         ensures { recent_numbers self.new ≡ keep_last 130 (recent_numbers self.old ++ number ∷ []) }
     {
+        self.make_room();
+        self.add(number);
+    }
+
+    /// Moves the last 130 numbers to the front of the array if the array is full.
+    #[inline(always)]
+    fn make_room(&mut self)
+        ensures numbers { recent_numbers self.new ≡ recent_numbers self.old }
+        ensures room { self.new.len < 192 }
+    {
         if self.len == 192 {
             self.move_to_front();
         }
-        self.add(number);
     }
 
     /// Moves the last 130 numbers to the front of the array, which is full.
@@ -66,6 +75,33 @@ impl LastNumbers {
     {
         self.numbers[usize::from(self.len)] = number;
         self.len += 1;
+    }
+
+    /// Appends the numbers `numbers` to the list.
+    pub fn append(&mut self, numbers: &[u16])
+        // If these are the last 130 numbers of a list, they are then the last 130 of the longer list.
+        ensures { (list : List ℕ) → recent_numbers self.old ≡ keep_last 130 list
+            → recent_numbers self.new ≡ keep_last 130 (list ++ numbers.now) }
+    {
+        let mut at = 0;
+        'numbers: while at < numbers.len() {
+            self.make_room();
+            let count = (numbers.len() - at).min(192 - usize::from(self.len));
+            self.add_all(&numbers[at..at + count]);
+            at += count;
+        }
+    }
+
+    /// Appends the numbers `numbers` to the list. The array must have room for them.
+    #[inline(always)]
+    fn add_all(&mut self, numbers: &[u16])
+        requires { self.old.len + length numbers.now ≤ 192 }
+        ensures { recent_numbers self.new ≡ keep_last 130 (recent_numbers self.old ++ numbers.now) }
+    {
+        let len = usize::from(self.len);
+        let end = len + numbers.len();
+        self.numbers[len..end].copy_from_slice(numbers);
+        self.len = end as u16;
     }
 
     /// Appends a number to the list `n` times.

@@ -41,7 +41,8 @@ pub struct Timings {
 
 impl Timings {
     ghost use Rattle.std.specs.Prelude.{◌≡◌, ◌<◌, ◌+◌, ◌^◌, ℕ, List, [], ◌++◌, length, replicate, sum};
-    ghost use Rattle.std.specs.Prelude.{◌∷◌, ◌≢◌, ◌↔◌, IsTrue, false};
+    ghost use Rattle.std.specs.Prelude.{◌∷◌, ◌≢◌, ◌≤◌, ◌↔◌, IsTrue, false, take};
+    ghost use Rattle.dcc_wire.specs.Passes.{PassesBody};
     ghost use Rattle.dcc_wire.specs.Framing.{Hunting, StandsFor, is_hunting, report_at, rest, seen};
     ghost use Rattle.dcc_wire.specs.Half.{class_of};
     ghost use Rattle.dcc_wire.specs.Runs.{still_ones};
@@ -119,6 +120,38 @@ impl Timings {
             us,
         );
         true
+    }
+
+    /// Appends half-bits at the beginning of `halves` that form bits of an unfinished body and do not
+    /// end this body. Returns the number of these half-bits. Returns 0 and changes nothing if no body
+    /// is unfinished, or if the first half-bit of a bit has come already. The longer list must have
+    /// fewer than 2^32 half-bits.
+    pub fn pass_bits(&mut self, halves: &[u16]) -> usize
+        requires { self.old.halves + length halves.now < 2 ^ 32 }
+        // Some list has the old statistics.
+        ensures history { ∥ ((list : List ℕ) × Measures self.old list) ∥₁ }
+        // If a list has the old statistics, the list with these half-bits at its end has the new
+        // statistics.
+        ensures measures { (list : List ℕ) → Measures self.old list
+            → Measures self.new (list ++ take result halves.now) }
+        ensures passes { result ≢ 0 → PassesBody (kept_rest self.old.framer) (take result halves.now)
+            (kept_rest self.new.framer) }
+        ensures left { result ≡ 0 → self.new ≡ self.old }
+        ensures count { self.new.halves ≡ self.old.halves + result }
+        ensures within { result ≤ length halves.now }
+    {
+        let count = self.framer.pass_bits(halves);
+        if count == 0 {
+            return 0;
+        }
+        count_halves(
+            &mut self.halves,
+            &mut self.time,
+            &mut self.classes,
+            &mut self.recent,
+            &halves[..count],
+        );
+        count
     }
 
     /// Appends a half-bit of `us` microseconds that has an outcome: a half-bit for which
@@ -311,8 +344,37 @@ fn count_half(
     classes.add(us, 1);
 }
 
-ghost use Rattle.std.specs.Prelude.{length};
+ghost use Rattle.std.specs.Prelude.{length, sum};
 ghost use Rattle.dcc_wire.specs.Framing.{StandsFor, seen, report_at};
+
+/// Appends the half-bits `list` to a list, as [`count_half`] does for each of them.
+#[inline(always)]
+fn count_halves(
+    halves: &mut u32,
+    time: &mut u64,
+    classes: &mut Classes,
+    recent: &mut LastNumbers,
+    list: &[u16],
+)
+    requires few { halves.old + length list.now < 2 ^ 32 }
+    requires short { time.old ≤ 65535 * halves.old }
+    requires room { classes_count classes.old + length list.now < 2 ^ 40 }
+    ensures halves { halves.new ≡ halves.old + length list.now }
+    ensures time { time.new ≡ time.old + sum list.now }
+    ensures short { time.new ≤ 65535 * halves.new }
+    ensures classes { (durations : List ℕ) → AreClasses classes.old durations
+        → AreClasses classes.new (durations ++ list.now) }
+    ensures class_count { classes_count classes.new ≡ classes_count classes.old + length list.now }
+    ensures recent { (durations : List ℕ) → recent_numbers recent.old ≡ keep_last 130 durations
+        → recent_numbers recent.new ≡ keep_last 130 (durations ++ list.now) }
+{
+    recent.append(list);
+    *halves += list.len() as u32;
+    for (i, us) in list.iter().enumerate() {
+        *time += u64::from(*us);
+        classes.add(*us, 1);
+    }
+}
 
 /// Takes a half-bit of `us` microseconds, with the contract of `KeptFramer::push`. Only few
 /// half-bits end an outcome, and a separate function takes them.

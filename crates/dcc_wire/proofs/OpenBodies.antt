@@ -1,6 +1,6 @@
 -- One half more on an unfinished body that is kept as bits and a first half.
 use Rattle.std.proofs.Common.{◌≡◌, ◌*◌, Bool, true, false, List, [], ◌∷◌, ◌++◌, length, Some, None, sym, ◌∙◌, arith}
-use Rattle.std.proofs.Common.{Option, append_assoc, append-nil, ◌≢◌}
+use Rattle.std.proofs.Common.{Option, append_assoc, append-nil, refl, ◌≢◌}
 use Rattle.std.specs.Option.{option_map}
 use Rattle.dcc_wire.specs.declared.half.Half.{Half}
 use Rattle.dcc_wire.specs.declared.half.Half.TheVariants.{Bad}
@@ -82,3 +82,11 @@ pub two_halves_more : (bits : List Bool) (half : Half) {halves : List Half} {kep
     → (halves ++ half ∷ []) ++ half ∷ [] ≡ halves_of (bits ++ bit ∷ [])
 two_halves_more bits half {bit = bit} view none is =
     rw (with_half bits half view none is, ← first_more bits bit, half_of-bit half bit is) (sym (bit_more bits bit))
+
+-- an unfinished body has no outcome
+pub body_open : (bits : List Bool) (first : Option Bool) → bytes_in 6 bits ≡ None
+    → outcome_of (halves_of bits ++ first_half first) ≡ None
+unfolding first_half bits_in behind_bits by_halves
+body_open bits None unfinished = rw (append-nil, outcome_of-bits, unfinished) refl
+body_open bits (Some true) unfinished = outcome_behind bits (first_half (Some true)) unfinished refl refl
+body_open bits (Some false) unfinished = outcome_behind bits (first_half (Some false)) unfinished refl refl

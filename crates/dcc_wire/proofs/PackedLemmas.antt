@@ -25,7 +25,7 @@ unfolding bits_of
 small_first c s small = rw (div-eq_of_lt small)
 
 -- a whole byte behind its zero
-packed_bits-whole : (bytes : List ℕ) (byte : ℕ) → byte < 256
+pub packed_bits-whole : (bytes : List ℕ) (byte : ℕ) → byte < 256
     → packed_bits (bytes ++ byte ∷ []) 0 0 ≡ packed_bits bytes 9 byte
 unfolding packed_bits byte_bits bits_of
 packed_bits-whole bytes byte small =
@@ -64,7 +64,7 @@ unfolding AllBytes
 packed_none = omega arith
 
 -- where a zero comes first
-shift_small : (count shift : ℕ) (bit : Bool) → 2 * shift < 2 ^ count → (count ≡ 0 → bit ≡ false)
+pub shift_small : (count shift : ℕ) (bit : Bool) → 2 * shift < 2 ^ count → (count ≡ 0 → bit ≡ false)
     → 2 * shift + cond bit 1 0 < 2 ^ count
 shift_small zero shift bit zero_first zero_bit = rw (zero_bit refl) (omega (arith, zero_first))
 shift_small (suc count) shift true zero_first zero_bit = omega (arith, pow-suc 2 count, zero_first)

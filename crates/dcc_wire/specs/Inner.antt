@@ -3,3 +3,4 @@ pub mod Steps
 pub mod OutcomeParts
 pub mod OutcomesAt
 pub mod KeptSteps
+pub mod Lists

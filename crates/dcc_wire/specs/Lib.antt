@@ -19,4 +19,5 @@ pub mod HalvesLeft
 pub mod OutcomeTable
 pub mod OutcomeLaws
 pub mod Kept
+pub mod Passes
 pub mod Inner

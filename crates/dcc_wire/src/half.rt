@@ -1,6 +1,9 @@
 //! The classes of half-bits.
 
-ghost use Rattle.std.specs.Prelude.{◌≡◌};
+ghost use Rattle.std.specs.Prelude.{◌≡◌, ◌∷◌, [], IfNone, IfSome};
+ghost use Rattle.dcc_wire.specs.Bodies.{halves_of};
+ghost use Rattle.dcc_wire.specs.Half.{class_of};
+ghost use Rattle.dcc_wire.specs.Outcomes.{bits_in};
 
 /// The class of a half-bit for a decoder (NMRA S-9.1; RCN-210).
 #[derive(Clone, Copy, Debug, PartialEq, Eq)]
@@ -37,5 +40,27 @@ impl Half {
         } else {
             Some(self == Half::One)
         }
+    }
+}
+
+/// Returns the bit that two half-bits of `first` and `second` microseconds form. Returns `None` if
+/// they form no bit.
+#[inline(always)]
+#[tactic(auto, unfolding(crate::specs::Bodies::halves_of, crate::specs::Outcomes::bits_in))]
+pub(crate) fn bit_of_two(first: u16, second: u16) -> Option<bool>
+    ensures some { IfSome result (λ bit. halves_of (bit ∷ []) ≡ class_of first ∷ class_of second ∷ []) }
+    ensures none { IfNone result (bits_in (class_of first ∷ class_of second ∷ []) ≡ []) }
+{
+    // a branch for each class, so that the compiler tests the second half-bit for this class alone
+    match Half::of(first) {
+        Half::One => match Half::of(second) {
+            Half::One => Some(true),
+            Half::Zero | Half::Bad => None,
+        },
+        Half::Zero => match Half::of(second) {
+            Half::Zero => Some(false),
+            Half::One | Half::Bad => None,
+        },
+        Half::Bad => None,
     }
 }

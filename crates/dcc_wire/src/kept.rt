@@ -6,7 +6,7 @@ ghost use Rattle.dcc_wire.specs.Kept.{kept_rest};
 use crate::bytes::PacketBytes;
 use crate::framer::{State, begins_body, counted, still_ones};
 use crate::open_body::OpenBody;
-use crate::packed_bits::PackedBits;
+use crate::packed_bits::{PackedBits, bits_of_byte};
 use crate::{Fault, Framer, Half, Seen};
 use arrayvec::ArrayVec;
 use std::marker::Model;
@@ -74,7 +74,11 @@ impl Model for KeptFramer {
 
 impl KeptFramer {
     ghost use Rattle.std.specs.Prelude.{◌≡◌, ◌≢◌, ◌↔◌, ℕ, List, ◌++◌, [], ◌∷◌, Some, length, IsTrue, true, false};
-    ghost use Rattle.std.specs.Prelude.{replicate};
+    ghost use Rattle.std.specs.Prelude.{replicate, ◌≤◌, Bool, map, take, None};
+    ghost use Rattle.dcc_wire.specs.Bodies.{halves_of};
+    ghost use Rattle.dcc_wire.specs.Outcomes.{bytes_in};
+    ghost use Rattle.dcc_wire.specs.Packed.{packed_bits};
+    ghost use Rattle.dcc_wire.specs.Passes.{PassesBody};
     ghost use Rattle.dcc_wire.specs.Half.{bit_of, class_of};
     ghost use Rattle.dcc_wire.specs.Runs.{still_ones};
     ghost use Rattle.dcc_wire.specs.Outcomes.{ones_left};
@@ -132,6 +136,60 @@ impl KeptFramer {
     {
         let _ = &self.in_body;
         self.take_apart(Half::of(us))
+    }
+
+    /// Takes half-bits at the beginning of `halves` that form bits of an unfinished body and do not
+    /// end this body. Returns the number of these half-bits. Returns 0 and changes nothing if no body
+    /// is unfinished, or if the first half-bit of a bit has come already.
+    #[inline(always)]
+    pub fn pass_bits(&mut self, halves: &[u16]) -> usize
+        ensures passes { result ≢ 0 → PassesBody (kept_rest self.old) (take result halves.now) (kept_rest self.new) }
+        ensures left { result ≡ 0 → self.new ≡ self.old }
+        ensures count { result ≤ length halves.now }
+    {
+        if !self.in_body || self.has_first {
+            return 0;
+        }
+        let mut at = 0;
+        'bytes: while at < halves.len() {
+            let more = self.pass_byte(&halves[at..]);
+            if more == 0 {
+                return at;
+            }
+            at += more;
+        }
+        at
+    }
+
+    /// Takes bits at the beginning of `halves`, at most up to the end of a byte. Returns the number of
+    /// half-bits of these bits.
+    #[inline(always)]
+    fn pass_byte(&mut self, halves: &[u16]) -> usize
+        requires in_body { self.old.in_body ≡ true }
+        requires whole { self.old.has_first ≡ false }
+        ensures bits { (bits : List Bool) × (halves_of bits ≡ map class_of (take result halves.now))
+            × (packed_bits self.new.bytes self.new.count self.new.shift
+            ≡ packed_bits self.old.bytes self.old.count self.old.shift ++ bits) }
+        ensures unfinished { bytes_in 6 (packed_bits self.new.bytes self.new.count self.new.shift) ≡ None }
+        ensures in_body { self.new.in_body ≡ true }
+        ensures whole { self.new.has_first ≡ false }
+        ensures left { result ≡ 0 → self.new ≡ self.old }
+        ensures count { result ≤ length halves.now }
+    {
+        if !self.bytes.has_room() {
+            return 0;
+        }
+        let part = bits_of_byte(self.shift, self.count, halves);
+        if part.count < 9 {
+            self.shift = part.shift;
+            self.count = part.count;
+            return part.at;
+        }
+        self.bytes.push(part.shift);
+        self.xor ^= part.shift;
+        self.shift = 0;
+        self.count = 0;
+        part.at
     }
 
     #[inline(always)]

@@ -80,11 +80,11 @@ impl Framer {
         }
         // the prover knows the invariant of a type if the code names one of the fields
         let _ = &self.state;
-        self.push_many(us, n)
+        self.push_by_bits(us, n)
     }
 
     /// Takes `n` half-bits of `us` microseconds, one or two at a time.
-    fn push_many(&mut self, us: u16, n: u32) -> RunSeen
+    fn push_by_bits(&mut self, us: u16, n: u32) -> RunSeen
         ensures { PushesRun self.old us n result self.new }
     {
         let half = Half::of(us);

@@ -1,13 +1,17 @@
-use Rattle.std.proofs.Common.{◌≡◌, ℕ, ◌++◌, List, length, take}
+use Rattle.std.proofs.Common.{◌≡◌, ◌≤◌, ◌-◌, ℕ, ◌++◌, List, length, take}
 use Rattle.dcc_wire.specs.Framing.{StandsFor}
 use Rattle.dcc_capture.proofs.HoldLemmas.{HoldsSoFar}
 use Rattle.dcc_capture.proofs.show_call.hold_halves.Given as goal
 
-abbrev pub invariant-loop-i : goal.invariant-loop-i
-invariant-loop-i g l = record {
+abbrev pub invariant-halves : goal.invariant-halves
+invariant-halves g l = record {
   stands : (durations : List ℕ) → StandsFor l.initial.framer durations
-      → StandsFor l.framer (durations ++ take l.i l.halves);
+      → StandsFor l.framer (durations ++ take l.taken l.halves);
   holds : (durations : List ℕ) → StandsFor l.initial.framer durations → l.before ≡ length durations
-      → HoldsSoFar l.words durations (take l.i l.halves) (g.W.Sink.state l.initial.writer) l.initial.held l.held
+      → HoldsSoFar l.words durations (take l.taken l.halves) (g.W.Sink.state l.initial.writer) l.initial.held l.held
       (g.W.Sink.state l.writer);
+  inside : l.taken ≤ length l.halves;
 }
+
+abbrev pub decreases-halves : goal.decreases-halves
+decreases-halves g l = length l.halves - l.taken

@@ -1,4 +1,4 @@
-use Rattle.std.proofs.Common.{arith, length, replicate, subst, sym, take}
+use Rattle.std.proofs.Common.{arith, replicate, subst, sym, take}
 use Rattle.std.proofs.lemmas.List.{length-replicate, length-take-le}
 use Rattle.std.proofs.lemmas.Result.{err_from_is_err_and}
 use Rattle.dcc_io.specs.InputState.{InputState}

@@ -1,26 +1,40 @@
-use Rattle.std.proofs.Common.{◌++◌, ◌∷◌, [], take, get_or, append-nil, append_assoc, arith, subst, sym}
+use Rattle.std.proofs.Common.{◌+◌, ◌++◌, take, append_assoc, arith, subst}
 use Rattle.std.proofs.lemmas.List.{take_more, take_all}
+use Rattle.dcc_wire.proofs.ListLemmas.{take_both}
+use Rattle.dcc_wire.proofs.PassedBits.{rest_inside}
 use Rattle.dcc_lost.specs.MeasuresTrack.{MeasuresTrack}
 use Rattle.dcc_lost.proofs.figures.TrackFigures.push_all.Goals as goal
 
-pub loop-i-init : goal.loop-i-init
-loop-i-init c = record {
-  measures = λ durations are. rw (append-nil durations) are;
-  count = omega arith;
-}
-
-pub loop-i-preserved : goal.loop-i-preserved
-loop-i-preserved c =
+pub halves-preserved : goal.halves-preserved
+halves-preserved c =
+    let before = c.halves.invariant in
+    let passed = c.pass_bits-at.ensures in
     let halves = c.args.halves.now in
-    let i = c.loop-i.i in
     record {
       measures = λ durations are.
-          rw (take_more halves i 0 c.loop-i-test.true, ← append_assoc)
-          (c.push.ensures.measures (durations ++ take i halves) (c.loop-i.invariant.measures durations are));
-      count = omega (arith, c.push.ensures.count, c.loop-i.invariant.count);
+          rw (take_both halves c.halves.at c.pass_bits-at.result durations)
+          (passed.measures (durations ++ take c.halves.at halves) (before.measures durations are));
+      count = omega (arith, passed.count, before.count);
+      inside = rest_inside halves c.halves.at c.pass_bits-at.result before.inside passed.within;
+    }
+
+pub halves-preserved-then-at-halves : goal.halves-preserved-then-at-halves
+halves-preserved-then-at-halves c =
+    let before = c.halves.invariant in
+    let passed = c.pass_bits-at.ensures in
+    let halves = c.args.halves.now in
+    let at = c.halves.at + c.pass_bits-at.result in
+    record {
+      measures = λ durations are.
+          rw (take_more halves at 0 c.if-at-halves.true, ← append_assoc)
+          (c.push.ensures.measures (durations ++ take at halves)
+          (rw (take_both halves c.halves.at c.pass_bits-at.result durations)
+          (passed.measures (durations ++ take c.halves.at halves) (before.measures durations are))));
+      count = omega (arith, c.push.ensures.count, passed.count, before.count);
+      inside = omega (arith, c.if-at-halves.true);
     }
 
 pub returns-clause-measures : goal.returns-clause-measures
 returns-clause-measures c = λ durations are.
-    let all = take_all c.loop-i.i c.args.halves.now c.loop-i-test.false in
-    subst (λ l. MeasuresTrack c.loop-i.self (durations ++ l)) all (c.loop-i.invariant.measures durations are)
+    let all = take_all c.halves.at c.args.halves.now c.halves-test.false in
+    subst (λ l. MeasuresTrack c.halves.self (durations ++ l)) all (c.halves.invariant.measures durations are)

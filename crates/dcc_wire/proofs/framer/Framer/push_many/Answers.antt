@@ -1,35 +1,36 @@
-use Rattle.std.proofs.Common.{◌≡◌, arith, ◌≢◌, rules}
+use Rattle.std.proofs.Common.{◌≡◌, rules}
 use Rattle.dcc_wire.specs.declared.seen.Seen.TheVariants.{Nothing}
-use Rattle.dcc_wire.proofs.RunLemmas.{quiet_after, quiet_rest, quiet_run, run_more, shown_run}
+use Rattle.dcc_wire.proofs.ListLemmas.{quiet_list, sees_nothing, takes_nothing, takes_on}
 use Rattle.dcc_wire.proofs.framer.Framer.push_many.Goals as goal
 
-pub returns-then-at-n : goal.returns-then-at-n
-returns-then-at-n c =
-    let all : c.loop-half.at ≡ c.args.n = omega arith in rw (← all) (quiet_run c.loop-half.invariant.0)
+-- the half-bits up to one with an outcome
 
-pub skip-requires : goal.skip-requires
-skip-requires c =
-    let something : c.push_some-some.result.seen ≢ Nothing = search rules in
-    quiet_after c.push_some-some.new.self c.push_some-some.result.seen c.of-half.result
-    (c.push_some-some.ensures.hunts something)
+pub returns-then-not-is_nothing-clause-stands : goal.returns-then-not-is_nothing-clause-stands
+returns-then-not-is_nothing-clause-stands c =
+    (takes_on c.args.halves.now c.halves.at c.push_some_of-some.result c.halves.invariant.1 c.halves.invariant.0
+    c.push_some_of-some.ensures).stands
 
--- behind the outcome the framer is quiet, and the rest is skipped
-pub returns-then-not-is_nothing : goal.returns-then-not-is_nothing
-returns-then-not-is_nothing c =
-    let something : c.push_some-some.result.seen ≢ Nothing = search rules in
-    let some = c.push_some-some.ensures in
-    shown_run c.push_some-some.new.self c.push_some-some.result.at c.args.n c.push_some-some.result.seen
-    c.loop-half.invariant.0 some.some.0 (omega arith) some.stands some.sees some.before (some.hunts something)
-    (rw c.of-half.ensures at c.skip.ensures) something
+pub returns-then-not-is_nothing-clause-sees : goal.returns-then-not-is_nothing-clause-sees
+returns-then-not-is_nothing-clause-sees c =
+    (takes_on c.args.halves.now c.halves.at c.push_some_of-some.result c.halves.invariant.1 c.halves.invariant.0
+    c.push_some_of-some.ensures).sees
 
-pub loop-half-preserved : goal.loop-half-preserved
-loop-half-preserved c =
-    let nothing : c.push_some-some.result.seen ≡ Nothing = c.is_nothing.ensures.0 (search rules) in
-    let some = c.push_some-some.ensures in
-    (run_more _ _ _ c.loop-half.invariant.0 some.some.0 some.stands some.sees nothing, omega arith)
+pub returns-then-not-is_nothing-clause-before : goal.returns-then-not-is_nothing-clause-before
+returns-then-not-is_nothing-clause-before c =
+    (takes_on c.args.halves.now c.halves.at c.push_some_of-some.result c.halves.invariant.1 c.halves.invariant.0
+    c.push_some_of-some.ensures).before
 
--- from a quiet framer on, all is skipped
-pub returns : goal.returns
-returns c =
-    quiet_run (quiet_rest c.args.n c.loop-half.invariant.0 c.loop-half.invariant.1
-    (rw c.of-half.ensures at (c.is_quiet.ensures.0 (search rules))) (rw c.of-half.ensures at c.skip-2.ensures))
+-- no outcome so far
+
+pub halves-preserved : goal.halves-preserved
+halves-preserved c =
+    let nothing : c.push_some_of-some.result.seen ≡ Nothing = c.is_nothing.ensures.0 (search rules) in
+    let some = takes_on c.args.halves.now c.halves.at c.push_some_of-some.result c.halves.invariant.1
+    c.halves.invariant.0 c.push_some_of-some.ensures in
+    (takes_nothing c.args.halves.now _ some nothing, some.some.1)
+
+pub returns-clause-sees : goal.returns-clause-sees
+returns-clause-sees c = sees_nothing c.args.halves.now c.halves.at c.halves.invariant.0
+
+pub returns-clause-before : goal.returns-clause-before
+returns-clause-before c = quiet_list c.args.halves.now c.halves.at c.halves.invariant.0

@@ -1,10 +1,9 @@
-use Rattle.std.proofs.Common.{◌-◌, ◌≤◌}
-use Rattle.dcc_wire.proofs.RunLemmas.{RunsTo}
+use Rattle.std.proofs.Common.{length, ◌-◌, ◌≤◌, take}
+use Rattle.dcc_wire.specs.Inner.Lists.{PassesList}
 use Rattle.dcc_wire.proofs.framer.Framer.push_many.Given as goal
 
--- nothing was seen so far
-abbrev pub invariant-loop-half : goal.invariant-loop-half
-invariant-loop-half l = RunsTo l.fn.self l.self l.us l.at × (l.at ≤ l.n)
+abbrev pub invariant-halves : goal.invariant-halves
+invariant-halves l = PassesList l.fn.self (take l.at l.halves) l.self × (l.at ≤ length l.halves)
 
-abbrev pub decreases-loop-half : goal.decreases-loop-half
-decreases-loop-half l = l.n - l.at
+abbrev pub decreases-halves : goal.decreases-halves
+decreases-halves l = length l.halves - l.at
