@@ -33,7 +33,7 @@ invariant_of-self c = record {
     list.0,
     subst (λ timings. AreTrackFigures timings c.args.self.now.ended c.args.self.now.ones c.args.self.now.unused
         (recent_numbers c.args.self.now.preambles) list.0) (sym (c.pass_bits-count.ensures.left c.if-count-eq0.true))
-    list.1,
+        list.1,
   ));
 }
 
