@@ -12,7 +12,7 @@ import tempfile
 import time
 import zipfile
 
-from harness import TOP, Browser, attempt, body, check, same, show, some_noise
+from harness import TOP, Browser, body, check, same, show, some_noise
 
 MAIN_TRACK = TOP / "examples" / "main_track.txt"
 WHO = ["s3", "s4", "l1000", "none", "b12"]
@@ -920,16 +920,4 @@ def open_all(browser):
     same("it is compared with a second capture", browser.text("#verdict code"), "members 0")
 
 
-def run(browser, program):
-    attempt(times, browser)
-    attempt(filters, browser, program)
-    attempt(states, browser, program)
-    attempt(comparison, browser, program)
-    attempt(two_sides, browser, program)
-    attempt(zoom, browser)
-    attempt(drops, browser, program)
-    attempt(keys, browser)
-    attempt(phone, browser)
-    attempt(schemes, browser, program)
-    attempt(timings, browser, program)
-    attempt(largest)
+PARTS = [times, filters, states, comparison, two_sides, zoom, drops, keys, phone, schemes, timings]

@@ -3,9 +3,14 @@
 
 The half-bits are packets with faults, in which spikes are put at random places and runs of spikes are frequent. The
 script also compares the joined half-bits with those of tools/without-spikes.awk."""
+import os
 import random
 import subprocess
 import sys
+from concurrent.futures import ProcessPoolExecutor
+
+sys.dont_write_bytecode = True
+import definition
 
 dcc, top, count = sys.argv[1], sys.argv[2], int(sys.argv[3])
 
@@ -43,27 +48,25 @@ def capture(chance):
     return words
 
 
-limits = [1, 2, 5, 5, 5, 21, 25]
-lines = spiked = 0
-for seed in range(count):
+def compared(seed):
+    """Compares a random capture. Returns the difference or nothing, the number of packets, and of those with spikes."""
     chance = random.Random(seed)
     words = capture(chance)
     text = ' '.join(words) + '\n'
-    limit = str(chance.choice(limits))
-    wanted = output(['python3', f'{top}/tools/lost/definition.py', limit], text)
-    told = output([dcc, 'lost', '--spikes', limit], text)
+    limit = chance.choice([1, 2, 5, 5, 5, 21, 25])
+    wanted = ''.join(f'{line}\n' for line in definition.lines_of(limit, text))
+    told = output([dcc, 'lost', '--spikes', str(limit)], text)
     if wanted != told:
-        print(f'seed {seed}, limit {limit}: {text}the definition has\n{wanted}and dcc writes\n{told}')
-        sys.exit(1)
+        return f'seed {seed}, limit {limit}: {text}the definition has\n{wanted}and dcc writes\n{told}', 0, 0
     joined = output(['awk', '-v', f'least={limit}', '-f', f'{top}/tools/without-spikes.awk'], text)
-    halves = []
-    for word in joined.split():
-        us, _, n = word.partition('*')
-        halves += [min(65535, int(us))] * int(n or 1)
-    told = output(['python3', f'{top}/tools/lost/definition.py', limit, 'join'], text)
-    if halves != [int(us) for us in told.split()]:
-        print(f'seed {seed}, limit {limit}: {text}without-spikes.awk joins in another way')
-        sys.exit(1)
-    lines += wanted.count('\n')
-    spiked += wanted.count('spikes')
-print(f'{count} captures: {lines} packets found, {spiked} of them with spikes')
+    if definition.durations_of(joined) != definition.joined_durations(limit, text):
+        return f'seed {seed}, limit {limit}: {text}without-spikes.awk joins in another way', 0, 0
+    return None, wanted.count('\n'), wanted.count('spikes')
+
+
+if __name__ == '__main__':
+    with ProcessPoolExecutor(len(os.sched_getaffinity(0))) as pool:
+        differences, lines, spiked = zip(*pool.map(compared, range(count), chunksize=10))
+    for it in filter(None, differences):
+        sys.exit(it)
+    print(f'{count} captures: {sum(lines)} packets found, {sum(spiked)} of them with spikes')

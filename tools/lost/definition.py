@@ -128,22 +128,39 @@ def found(limit, durations):
     return f'{len(durations)} lost {bytes(frame).hex()}: ' + ', '.join(causes)
 
 
-def main():
-    limit = int(sys.argv[1])
+def durations_of(capture):
+    """Returns the half-bits of a capture."""
     durations = []
-    for word in sys.stdin.read().split():
+    for word in capture.split():
         us, _, n = word.partition('*')
         durations += [min(65535, int(us))] * int(n or 1)
-    groups = joined(limit, durations)
-    if 'join' in sys.argv[2:]:
-        print(*(min(65535, sum(group)) for group in groups))
-        return
-    end = 0
-    for group in groups:
+    return durations
+
+
+def joined_durations(limit, capture):
+    """Returns the joined half-bits of a capture."""
+    return [min(65535, sum(group)) for group in joined(limit, durations_of(capture))]
+
+
+def lines_of(limit, capture):
+    """Returns the lines of all packets that are found in a capture."""
+    durations, end, lines = durations_of(capture), 0, []
+    for group in joined(limit, durations):
         end += len(group)
         line = found(limit, durations[:end])
         if line:
-            print(line)
+            lines.append(line)
+    return lines
 
 
-main()
+def main():
+    limit, capture = int(sys.argv[1]), sys.stdin.read()
+    if 'join' in sys.argv[2:]:
+        print(*joined_durations(limit, capture))
+        return
+    for line in lines_of(limit, capture):
+        print(line)
+
+
+if __name__ == '__main__':
+    main()

@@ -1,6 +1,6 @@
 -- What the half of a word at hand says of a capture.
-use Rattle.std.proofs.Common.{◌≡◌, ◌<◌, ◌≤◌, ℕ, suc, zero, take, List, [], ◌∷◌, length, false, eqb, None, Some, Ok}
-use Rattle.std.proofs.Common.{refl, ap, arith}
+use Rattle.std.proofs.Common.{◌≡◌, ◌+◌, ◌≤◌, ℕ, suc, zero, take, List, [], ◌∷◌, length, false, eqb, None, Some, Ok}
+use Rattle.std.proofs.Common.{refl, sym, ap, subst, arith}
 use Rattle.std.proofs.lemmas.Bool.{and_parts, false_from_ne_true, eqb-true}
 use Rattle.std.specs.List.{list_all}
 use Rattle.std.specs.Char.{is_ascii_digit}
@@ -12,10 +12,10 @@ use Rattle.dcc_io.proofs.FrontLemmas.{digit_bounds, duration_parts}
 use Rattle.dcc_io.proofs.SpellsLemmas.{no_star_in, before_all}
 use Rattle.dcc_capture.specs.Capture.{AnswersRun, GaveHalves}
 use Rattle.dcc_capture.proofs.LinesLemmas.{GaveHalves-append, GaveHalves-none}
-use Rattle.dcc_capture.specs.FirstRead.{AnswersFirst}
+use Rattle.dcc_capture.specs.FirstRead.{AnswersFirst, LeadsTo, first_so_far}
 use Rattle.dcc_capture.proofs.RunWordLemmas.{run_of_duration, spelled_parts, some_half}
 use Rattle.dcc_capture.proofs.CaptureLemmas.{Gave-word}
-use Rattle.dcc_capture.proofs.BothLemmas.{counts_run}
+use Rattle.dcc_capture.proofs.BothLemmas.{Leads-join, counts_run}
 
 -- a run that was at hand is the next of a capture
 pub run_taken : {old new : InputState} {run : Run} → TakesRun old run new → AnswersRun old (Ok (Some run)) new
@@ -75,13 +75,26 @@ halves_taken old new (us ∷ halves) fault takes =
     GaveHalves-append old takes.0 new (us ∷ []) halves one
     (halves_taken takes.0 new halves one.items.fault takes.2)
 
-pub fewer_bytes : (old new : InputState) (halves : List ℕ) → old.fault ≡ None → TakesHalves old halves new
-    → 0 < length halves → new.bytes < old.bytes
-fewer_bytes old new [] fault same some = absurd (omega arith)
-fewer_bytes old new (us ∷ halves) fault takes some =
+pub bytes_taken : (old new : InputState) (halves : List ℕ) → TakesHalves old halves new
+    → new.bytes + length halves ≤ old.bytes
+bytes_taken old new [] same = rw same (omega arith)
+bytes_taken old new (us ∷ halves) takes =
+    let later = bytes_taken takes.0 new halves takes.2 in
+    let fewer = takes.1.fewer in
+    omega arith
+
+-- in the first of two captures
+pub first_halves_taken : (before : ℕ) (old new : InputState) (us : ℕ) (halves : List ℕ) → old.fault ≡ None
+    → TakesHalves old (us ∷ halves) new → LeadsTo before old new (first_so_far (us ∷ halves) new.lines new)
+first_halves_taken before old new us [] none takes =
+    rw takes.2
+    (subst (λ (line : ℕ). LeadsTo before old takes.0 (first_so_far (us ∷ []) line takes.0)) (sym takes.1.lines)
+    (first_half_taken before none takes.1).0)
+first_halves_taken before old new us (next ∷ halves) none takes =
     let one = (half_taken takes.1).0 in
-    let later = (halves_taken takes.0 new halves one.items.fault takes.2).items.bytes in
-    omega (arith, later, takes.1.fewer)
+    Leads-join before old.place.line old takes.0 new (us ∷ []) (first_so_far (next ∷ halves) new.lines new)
+    (first_so_far (us ∷ next ∷ halves) new.lines new) (first_half_taken before none takes.1).0
+    (first_halves_taken old.place.line takes.0 new next halves one.items.fault takes.2) (λ end more last. refl)
 
 -- no word at hand was taken
 pub none_taken : (old new : InputState) (halves : List ℕ) (count : ℕ) → count ≤ 0

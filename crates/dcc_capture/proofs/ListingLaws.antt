@@ -32,14 +32,13 @@ pub AreLines-one : {A : Type 0} (IsLineOf : ℕ → A → List ℕ → Type 0) (
 AreLines-one IsLineOf place item line is_line = (line, [], is_line, refl, sym (append-nil line))
 
 -- what a half showed is listed by its line
-pub IsListing-reported : (words : Bool) (place half : ℕ) (outcome : Seen) (line : List ℕ)
+pub reported : (IsLineOf : ℕ → Seen → List ℕ → Type 0) (place half : ℕ) (outcome : Seen) (line : List ℕ)
     → ((frame : Frame) × (outcome ≡ Packet frame)) ⊎ ((fault : Fault) × (outcome ≡ Refused fault))
-    → half ≡ place + 1 → IsLine words half outcome line → IsListing words (report_at place outcome) line
+    → half ≡ place + 1 → IsLineOf half outcome line → AreLines IsLineOf (report_at place outcome) line
 unfolding report_at
-IsListing-reported words place half Nothing line (inl shown) same is_line = let e = shown.1 in cc
-IsListing-reported words place half Nothing line (inr shown) same is_line = let e = shown.1 in cc
-IsListing-reported words place half seen line shown same is_line =
-    AreLines-one (IsLine words) place seen line (rw same at is_line)
+reported IsLineOf place half Nothing line (inl shown) same is_line = let e = shown.1 in cc
+reported IsLineOf place half Nothing line (inr shown) same is_line = let e = shown.1 in cc
+reported IsLineOf place half seen line shown same is_line = AreLines-one IsLineOf place seen line (rw same at is_line)
 
 one_frame_text : (words : Bool) (frame one other : List ℕ) → IsFrameText words frame one → IsFrameText words frame other
     → one ≡ other

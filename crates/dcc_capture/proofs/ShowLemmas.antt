@@ -1,5 +1,5 @@
 -- What a framer answers to a run.
-use Rattle.std.proofs.Common.{◌≡◌, ◌≢◌, ℕ, ◌+◌, ◌-◌, ◌<◌, ◌≤◌, List, [], ◌∷◌, ◌++◌, length, replicate, refl, ap, ◌∙◌}
+use Rattle.std.proofs.Common.{◌≡◌, ◌≢◌, ℕ, ◌+◌, ◌-◌, ◌<◌, ◌≤◌, List, ◌++◌, length, replicate, refl}
 use Rattle.std.proofs.Common.{arith}
 use Rattle.dcc_wire.specs.declared.seen.Seen.{Seen}
 use Rattle.dcc_wire.specs.declared.seen.Seen.TheVariants.{Nothing, Packet, Refused}
@@ -23,11 +23,3 @@ at_some_half run answer some nothing something = go answer.seen nothing somethin
     go Nothing nothing something = let all = nothing refl in (omega (arith, all, some), omega (arith, all))
     go (Packet frame) nothing something = something (λ none. cc)
     go (Refused fault) nothing something = something (λ none. cc)
-
--- one half is a run of one
-pub answers_one : (halves : List ℕ) (us : ℕ) (answer : Seen)
-    → seen (halves ++ us ∷ []) ≡ seen halves ++ report_at (length halves) answer
-    → Answers halves (record { us = us; n = 1 }) (record { seen = answer; at = 1 })
-answers_one halves us answer sees =
-    let place : length halves ≡ length halves + 1 - 1 = omega arith in
-    sees ∙ ap (λ n. seen halves ++ report_at n answer) place

@@ -1,8 +1,6 @@
 -- The runs of a capture for an operation that writes lines. A part of the written bytes can be
 -- buffered.
-use Rattle.std.specs.Prelude.{◌≡◌, ℕ, ◌++◌, ◌⊎◌, List, [], Bool, Option, Result, Ok, Err, OnOk}
-use Rattle.dcc_wire.specs.Framing.{seen}
-use Rattle.dcc_wire.specs.declared.seen.Seen.{Seen}
+use Rattle.std.specs.Prelude.{◌≡◌, ℕ, ◌++◌, ◌⊎◌, List, [], Option, Result, Ok, Err, OnOk}
 use Rattle.std.specs.Io.KnownBytes.{Appends}
 use Rattle.dcc_io.specs.declared.stream.Failed.{Failed}
 use Rattle.dcc_io.specs.declared.fault.ToolFault.{ToolFault}
@@ -15,7 +13,7 @@ use Rattle.dcc_io.specs.WriterState.{WriterState}
 use Rattle.dcc_io.specs.WrittenBytes.{AppendsFront}
 use Rattle.dcc_io.specs.Held.{Holds, HoldsOrFails}
 use Rattle.dcc_capture.specs.Capture.{AnswersRun}
-use Rattle.dcc_capture.specs.Listing.{AreLines, IsLine}
+use Rattle.dcc_capture.specs.Listing.{AreLines}
 
 -- let `held` and then the lines of `items` form one list of bytes. If the result is Ok, this list
 -- was written except for its suffix `left`, which is buffered. If the result is an error, a write
@@ -43,15 +41,18 @@ ReadsRun old before held (Ok answer) new left after =
 ReadsRun old before held (Err failed) new left after =
     (new ≡ old) × AppendsFront before after held × HasRisen before.failures after.failures
 
--- The list `halves` follows the half-bits `durations`. If the result is Ok, the lines of the
--- outcomes in `halves` were appended to `held`, and `left` is buffered. If the result is an error,
--- this holds for the first half-bits of `halves`, and a write failed or wrote no byte.
-pub record HoldsListing (words : Bool) (durations halves : List ℕ) (before : WriterState) (held : List ℕ)
-    (result : Result (Unit {0}) Failed) (left : List ℕ) (after : WriterState) : Type 0 where
+-- The list `halves` follows the half-bits `durations`. The function `items` gives the items of a list
+-- of half-bits. If the result is Ok, the lines of the items that `halves` adds were appended to `held`,
+-- and `left` is buffered. If the result is an error, this holds for the first half-bits of `halves`, and
+-- a write failed or wrote no byte.
+pub record HoldsListing {A : Type 0} (IsLineOf : ℕ → A → List ℕ → Type 0) (items : List ℕ → List (ℕ × A))
+    (durations halves : List ℕ) (before : WriterState) (held : List ℕ) (result : Result (Unit {0}) Failed)
+    (left : List ℕ) (after : WriterState)
+    : Type 0 where
   pub some : List ℕ
   pub rest : List ℕ
   pub whole : halves ≡ some ++ rest
   pub all : OnOk result (rest ≡ [])
-  pub items : List (ℕ × Seen)
-  pub adds : seen (durations ++ some) ≡ seen durations ++ items
-  pub holds : HoldsLines (IsLine words) items before held result left after
+  pub more : List (ℕ × A)
+  pub adds : items (durations ++ some) ≡ items durations ++ more
+  pub holds : HoldsLines IsLineOf more before held result left after

@@ -9,7 +9,7 @@ ghost use Rattle.dcc_capture.specs.Inner.FirstSteps.{CountsWord, EndsMark};
 
 use dcc_io::inputs::{
     count_run, ends_line, line_of_next_byte, next_word, refuse_line, refuse_number,
-    take_buffered_half, take_buffered_run,
+    take_buffered_run,
 };
 use dcc_io::{Input, KeptFault, Run, RunWord, Source};
 use dcc_packet::PacketFault;
@@ -32,25 +32,8 @@ pub fn next_of_first<R: Source>(
 }
 
 /// Returns the next run of the first capture and its line, for an input without a stored error.
-/// Most words are durations that the buffer contains completely.
-#[tactic(auto, using(crate::proofs::HalfLemmas::first_half_taken))]
+/// Most runs are words that the buffer contains completely.
 fn buffered_or_next_of_first<R: Source>(
-    input: &mut Input<R>,
-    before: u64,
-) -> Result<Option<(u64, Run)>, KeptFault>
-    requires { input.old.fault ≡ None }
-    ensures { AnswersFirst before input.old result input.new }
-{
-    let line = line_of_next_byte(input);
-    match take_buffered_half(input) {
-        Some(us) => Ok(Some((line, Run { us, n: 1 }))),
-        None => buffered_or_read_run_of_first(input, before),
-    }
-}
-
-/// Returns the next run of the first capture and its line, if the buffer does not begin with a
-/// complete word that is a duration.
-fn buffered_or_read_run_of_first<R: Source>(
     input: &mut Input<R>,
     before: u64,
 ) -> Result<Option<(u64, Run)>, KeptFault>

@@ -8,7 +8,7 @@ ghost use Rattle.dcc_capture.specs.Capture.{AnswersRun};
 ghost use Rattle.dcc_capture.specs.FirstRead.{AnswersFirst};
 ghost use Rattle.dcc_capture.specs.ListingLaws.{OneListing, ListsInHex};
 
-/// Theorem: a half-bit that `take_buffered_half` of `dcc_io` returns is the next run of the
+/// Theorem: a half-bit that `take_buffered_halves` of `dcc_io` takes is the next run of the
 /// capture, with one half-bit. In the first of two captures, this half-bit is the next run of the
 /// first capture.
 #[tactic(auto, using(crate::proofs::HalfLemmas::half_taken, crate::proofs::HalfLemmas::first_half_taken))]

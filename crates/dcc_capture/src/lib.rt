@@ -12,5 +12,5 @@ mod show_call;
 pub use first_capture::next_of_first;
 pub use listed_runs::{next_listed_run, write_rest};
 pub use listing::{append_frame, outcome_line};
-pub use runs::{next_run, read_run};
-pub use show_call::show;
+pub use runs::read_run;
+pub use show_call::{LineForm, list_outcomes, show};

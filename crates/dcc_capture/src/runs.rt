@@ -4,7 +4,7 @@ ghost use Rattle.std.specs.Prelude.{◌≡◌, None};
 ghost use Rattle.dcc_io.specs.KeptAnswers.{AnswersKept};
 ghost use Rattle.dcc_capture.specs.Capture.{AnswersRun};
 
-use dcc_io::inputs::{count_run, next_word, refuse_number, take_buffered_half, take_buffered_run};
+use dcc_io::inputs::{count_run, next_word, refuse_number, take_buffered_run};
 use dcc_io::{Input, KeptFault, Run, Source};
 
 /// Returns the run of the next word. Returns `None` at the end of the capture. If the function
@@ -46,21 +46,5 @@ fn run_of_read_word<R: Source>(input: &mut Input<R>) -> Result<Option<Run>, Kept
             None => Err(refuse_number(input, line)),
         },
         None => Ok(None),
-    }
-}
-
-/// Returns the next run of half-bits. Returns `None` at the end of the capture. If the function
-/// returns an error, `input` stores this error.
-#[tactic(auto, using(crate::proofs::HalfLemmas::half_taken))]
-pub fn next_run<R: Source>(input: &mut Input<R>) -> Result<Option<Run>, KeptFault>
-    ensures kept { AnswersKept input.old result input.new }
-    ensures reads { input.old.fault ≡ None → AnswersRun input.old result input.new }
-{
-    if let Some(fault) = input.fault() {
-        return Err(fault);
-    }
-    match take_buffered_half(input) {
-        Some(us) => Ok(Some(Run { us, n: 1 })),
-        None => run_of_next_word(input),
     }
 }

@@ -118,6 +118,7 @@ takes_short behind left bytes line last next word spare some is at = record {
   passed = short_passed behind left bytes line last next word spare is at;
   some = some;
   counted = refl;
+  lines = refl;
   fewer =
       let inside = short_inside bytes word is in
       let some_bytes = inside.1 in

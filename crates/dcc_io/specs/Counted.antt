@@ -17,7 +17,7 @@ CountsRun old run (Err fault) new =
     (fault ≡ TooMuch) × (old.halves < run.n) × (new ≡ record old { fault = Some TooMuch })
 
 -- the next word is on the current line of `old` and is the duration `us`. The word was removed, and
--- one half-bit was subtracted from the limit.
+-- one half-bit was subtracted from the limit. The line of the word is the last line that was used.
 pub record TakesHalf (old : InputState) (us : ℕ) (new : InputState) : Type 0 where
   pub word : List ℕ
   pub spells : duration_of word ≡ Some us
@@ -25,6 +25,7 @@ pub record TakesHalf (old : InputState) (us : ℕ) (new : InputState) : Type 0 w
   pub passed : Passed old (record { line = old.place.line; bytes = word } ∷ []) mid
   pub some : 0 < mid.halves
   pub counted : new ≡ record mid { halves = mid.halves - 1 }
+  pub lines : new.lines ≡ old.place.line
   pub fewer : new.bytes < old.bytes
 
 -- the next word is on the current line of `old` and is `run`. The word was removed, and the

@@ -20,7 +20,7 @@ use crate::stream::Source;
 use crate::text_line::{TextLine, front_line, skipped_line_len};
 use crate::word::{
     FrontWord, Run, RunWord, begins_with_line_feed, begins_with_run, front_word, is_gap,
-    len_of_line, short_word_before_cr_lf, whole_word, word_of_three, word_of_two,
+    len_of_line, whole_word,
 };
 use dcc_packet::PacketFault;
 use std::alloc::Global;
@@ -234,7 +234,6 @@ impl<R: Source> Input<R> {
         ensures behind { self.old.place.line ≤ self.new.place.line }
         ensures no_comment { self.new.place.in_comment ≡ false }
         ensures bytes { self.new.bytes + (word_len + 1) ≡ self.old.bytes }
-        ensures ahead { self.new.ahead ≡ drop (word_len + 1) self.old.ahead }
         ensures lines { self.new.lines ≡ self.old.place.line }
         ensures line { ends_line ≡ false → self.new.place.line ≡ self.old.place.line }
     {
@@ -343,7 +342,7 @@ impl<R: Source> Input<R> {
         ensures none { IfNone result (self.new ≡ self.old) }
     {
         let front = front_word(self.source.ahead())?;
-        self.take_front(front, true)
+        self.take_front(front)
     }
 
     /// Removes the short words at the beginning of the buffer, writes their durations to `halves`, and
@@ -377,10 +376,9 @@ impl<R: Source> Input<R> {
     }
 
     /// Removes the word at the beginning of the buffer and returns its duration. Returns `None` if
-    /// the limit of bytes is exceeded. The line feed of a CR LF is removed only if `with_line_feed`
-    /// is true.
+    /// the limit of bytes is exceeded.
     #[inline(always)]
-    fn take_front(&mut self, front: FrontWord, with_line_feed: bool) -> Option<u16>
+    fn take_front(&mut self, front: FrontWord) -> Option<u16>
         requires fault { self.old.fault ≡ None }
         requires no_comment { self.old.place.in_comment ≡ false }
         requires left { 0 < self.old.halves }
@@ -392,32 +390,8 @@ impl<R: Source> Input<R> {
         if self.bytes_left as usize <= front.len + 2 {
             return None;
         }
-        self.pass_word_and_gap(front.len, front.ends_line, with_line_feed);
+        self.pass_word_and_gap(front.len, front.ends_line, true);
         self.halves_left -= 1;
-        Some(front.us)
-    }
-
-    /// Removes the word at the beginning of the buffer, and the CR LF after this word. Returns the
-    /// duration of the word. Returns `None` if the limit of bytes is exceeded.
-    #[inline(always)]
-    fn take_front_and_cr_lf(&mut self, front: FrontWord) -> Option<u16>
-        requires fault { self.old.fault ≡ None }
-        requires no_comment { self.old.place.in_comment ≡ false }
-        requires left { 0 < self.old.halves }
-        requires front { IsFrontWord self.old.ahead front }
-        requires ends_line { front.ends_line ≡ false }
-        requires line_feed { HasLineFeedAt self.old.ahead (front.len + 1) }
-        ensures some { IfSome result (λ us. TakesHalf self.old us self.new) }
-        ensures none { IfNone result (self.new ≡ self.old) }
-    {
-        // the word and two bytes after the word
-        if self.bytes_left as usize <= front.len + 2 {
-            return None;
-        }
-        self.pass_word(front.len, front.ends_line);
-        self.pass_line_feed();
-        let left = self.halves_left - 1;
-        self.halves_left = left;
         Some(front.us)
     }
 
@@ -537,32 +511,6 @@ pub fn next_word<R: Source>(input: &mut Input<R>) -> Result<Option<(u64, RunWord
     match input.take_buffered_word(false) {
         Some(word) => Ok(Some(word)),
         None => input.read_word(),
-    }
-}
-
-/// Removes the next word and returns its duration. Returns `None` if the buffer does not begin with
-/// a complete word that is a duration. The half-bit counts against the limit. Most half-bits of a
-/// capture are read by this function, which reads each byte once.
-#[inline(always)]
-pub fn take_buffered_half<R: Source>(input: &mut Input<R>) -> Option<u16>
-    requires { input.old.fault ≡ None }
-    ensures some { IfSome result (λ us. TakesHalf input.old us input.new) }
-    ensures none { IfNone result (input.new ≡ input.old) }
-{
-    if input.in_comment || input.halves_left == 0 {
-        return None;
-    }
-    // a call for each number of digits, so that the compiler makes shorter code for each
-    if let Some(front) = word_of_two(input.source.ahead()) {
-        return input.take_front(front, false);
-    }
-    if let Some(front) = word_of_three(input.source.ahead()) {
-        return input.take_front(front, false);
-    }
-    match short_word_before_cr_lf(input.source.ahead()) {
-        Some(front) => input.take_front_and_cr_lf(front),
-        None if begins_with_run(input.source.ahead()) => None,
-        None => input.take_any_buffered_half(),
     }
 }
 

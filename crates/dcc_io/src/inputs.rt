@@ -12,8 +12,7 @@ ghost use Rattle.dcc_io.specs.NextLine.{AnswersLine};
 use crate::fault::{KeptFault, ToolFault};
 use crate::input::Input;
 pub use crate::input::{
-    count_run, line_of_next_byte, next_word, take_buffered_half, take_buffered_halves,
-    take_buffered_run,
+    count_run, line_of_next_byte, next_word, take_buffered_halves, take_buffered_run,
 };
 pub use crate::said_line::{ParsedLine, next_item, take_buffered_item};
 use crate::stream::Source;

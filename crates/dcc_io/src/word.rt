@@ -117,67 +117,6 @@ pub struct FrontWord {
     pub ends_line: bool,
 }
 
-/// Returns the word of two digits at the beginning of `bytes`, if a space or a line feed ends it. Most
-/// words of a capture have two or three digits. Returns `None` for other bytes.
-#[inline(always)]
-pub fn word_of_two(bytes: &[u8]) -> Option<FrontWord>
-    ensures { IfSome result (λ front. IsFrontWord bytes.now front) }
-{
-    let us = two_digits(bytes)?;
-    if !ends_most_words(bytes[2]) {
-        return None;
-    }
-    Some(FrontWord {
-        us: us as u16,
-        len: 2,
-        ends_line: bytes[2] == b'\n',
-    })
-}
-
-/// Returns the word of three digits at the beginning of `bytes`, if a space or a line feed ends it.
-/// Returns `None` for other bytes.
-#[inline(always)]
-pub fn word_of_three(bytes: &[u8]) -> Option<FrontWord>
-    ensures { IfSome result (λ front. IsFrontWord bytes.now front) }
-{
-    let us = three_digits(bytes)?;
-    if !ends_most_words(bytes[3]) {
-        return None;
-    }
-    Some(FrontWord {
-        us: us as u16,
-        len: 3,
-        ends_line: bytes[3] == b'\n',
-    })
-}
-
-/// Returns the word at the beginning of `bytes`, if it consists of two or three digits and CR LF
-/// follows it. Returns `None` for other bytes.
-#[inline(always)]
-pub fn short_word_before_cr_lf(bytes: &[u8]) -> Option<FrontWord>
-    ensures word { IfSome result (λ front. IsFrontWord bytes.now front) }
-    ensures ends_line { IfSome result (λ front. front.ends_line ≡ false) }
-    ensures line_feed { IfSome result (λ front. HasLineFeedAt bytes.now (front.len + 1)) }
-{
-    let us = two_digits(bytes)?;
-    if is_cr(bytes[2]) && bytes[3] == b'\n' {
-        return Some(FrontWord {
-            us: us as u16,
-            len: 2,
-            ends_line: false,
-        });
-    }
-    let us = three_digits(bytes)?;
-    if is_cr(bytes[3]) && bytes.len() > 4 && bytes[4] == b'\n' {
-        return Some(FrontWord {
-            us: us as u16,
-            len: 3,
-            ends_line: false,
-        });
-    }
-    None
-}
-
 /// A word of two or three digits at the beginning of a list of bytes, with the gap after the word.
 #[derive(Clone, Copy, Debug)]
 pub struct ShortWord {
@@ -200,7 +139,9 @@ pub fn first_two_digits(bytes: &[u8]) -> Option<u32>
     if bytes.len() < 5 {
         return None;
     }
-    two_digits(bytes)
+    let tens = digit(bytes[0])?;
+    let ones = digit(bytes[1])?;
+    Some(tens * 10 + ones)
 }
 
 /// Returns the word of two or three digits at the beginning of `bytes`, if a space follows it. The
@@ -284,33 +225,6 @@ fn with_line_end(bytes: &[u8], us: u32, len: usize) -> Option<ShortWord>
     })
 }
 
-/// Returns the number in the first two bytes, if `bytes` has at least four bytes and these two are
-/// digits.
-#[inline(always)]
-fn two_digits(bytes: &[u8]) -> Option<u32>
-    ensures number { IfSome result (λ us. (4 ≤ length bytes.now) × (duration_of (take 2 bytes.now) ≡ Some us)) }
-    ensures small { IfSome result (λ us. us < 100) }
-{
-    if bytes.len() < 4 {
-        return None;
-    }
-    let tens = digit(bytes[0])?;
-    let ones = digit(bytes[1])?;
-    Some(tens * 10 + ones)
-}
-
-/// Returns the number in the first three bytes, if `bytes` has at least four bytes and these three
-/// are digits.
-#[inline(always)]
-fn three_digits(bytes: &[u8]) -> Option<u32>
-    ensures number { IfSome result (λ us. (4 ≤ length bytes.now) × (duration_of (take 3 bytes.now) ≡ Some us)) }
-    ensures small { IfSome result (λ us. us < 1000) }
-{
-    let tens = two_digits(bytes)?;
-    let ones = digit(bytes[2])?;
-    Some(tens * 10 + ones)
-}
-
 /// Returns the value of a decimal digit. Returns `None` for any other byte. The range is tested on the
 /// wide number, so that the compiler subtracts 48 once.
 #[inline(always)]
@@ -330,15 +244,6 @@ pub fn is_digit(byte: u8) -> bool
     ensures { IsTrue result ↔ ((48 ≤ byte) × (byte ≤ 57)) }
 {
     b'0' <= byte && byte <= b'9'
-}
-
-/// Returns true if a byte is a space or a line feed.
-#[inline(always)]
-#[tactic(auto, unfolding(crate::specs::Words::is_gap))]
-fn ends_most_words(byte: u8) -> bool
-    ensures { IsTrue result → is_gap byte ≡ true }
-{
-    byte == b' ' || byte == b'\n'
 }
 
 /// Returns true if a byte is CR.

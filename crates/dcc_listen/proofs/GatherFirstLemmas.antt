@@ -9,7 +9,6 @@ use Rattle.dcc_wire.specs.Framing.{StandsFor}
 use Rattle.dcc_packet.specs.declared.packet.Packet.{Packet}
 use Rattle.dcc_order.specs.Hearing.{ArePackets}
 use Rattle.dcc_order.specs.Fleets.{AreShownBy}
-use Rattle.dcc_order.proofs.HearingLemmas.{packets_more, no_packets}
 use Rattle.dcc_io.specs.declared.word.Run.{Run}
 use Rattle.dcc_io.specs.declared.fault.KeptFault.{KeptFault}
 use Rattle.dcc_io.specs.declared.fault.KeptFault.TheVariants.{Number, Line, Read, TooMuch}
@@ -27,7 +26,10 @@ use Rattle.dcc_capture.specs.FirstRead.{LeadsIn, LeadsTo, first_so_far, first_is
 use Rattle.dcc_listen.specs.GatheredBoth.{both_in, both_before_failure, GatheredFirst, HoldBoth, GatheredBoth}
 use Rattle.dcc_listen.specs.GatheredBoth.{ReadsBothUpTo, BothLinesAt, StopsBothAt, BothFail}
 use Rattle.dcc_capture.proofs.ShowLemmas.{Answers}
-use Rattle.dcc_listen.proofs.GatherLemmas.{few_more}
+use Rattle.dcc_listen.specs.Taking.{HoldsPackets}
+use Rattle.dcc_listen.proofs.GatherLemmas.{HoldsPackets-more, no_packets_held}
+use Rattle.dcc_io.specs.Counted.{TakesHalves}
+use Rattle.dcc_capture.proofs.HalfLemmas.{first_halves_taken, halves_taken}
 use Rattle.dcc_io.proofs.CallLemmas.{gives_up}
 use Rattle.dcc_io.proofs.TookLemmas.{told_behind, LinesAt-behind}
 use Rattle.dcc_io.proofs.WrittenLemmas.{HasRisen-one_more}
@@ -38,21 +40,12 @@ pub record GatheringFirst (start now : InputState) (before : ℕ) (framer : Fram
   pub halves : List ℕ
   pub leads : LeadsTo 0 start now (first_so_far halves before now)
   pub left : now.halves + length halves ≡ start.halves
-  pub stands : StandsFor framer halves
-  pub hold : ArePackets packets halves
-  pub few : length packets ≤ length halves
+  pub holds : HoldsPackets framer packets halves
 
 pub GatheringFirst-start : (input : InputState) (framer : Framer) → input.fault ≡ None → StandsFor framer []
     → GatheringFirst input input 0 framer []
 GatheringFirst-start input framer fault stands =
-    record {
-      halves = [];
-      leads = Leads-start 0 input fault;
-      left = omega arith;
-      stands = stands;
-      hold = no_packets;
-      few = omega arith;
-    }
+    record { halves = []; leads = Leads-start 0 input fault; left = omega arith; holds = no_packets_held stands }
 
 in_front_twice : (first second : List ℕ) (both : Both)
     → in_front first (in_front second both) ≡ in_front (first ++ second) both
@@ -60,26 +53,47 @@ in_front_twice first second both =
     ap (λ (l : List ℕ). record { first = l; second = both.second; fault = both.fault })
     (sym (append_assoc first second both.first))
 
-pub GatheringFirst-run : (start now new : InputState) (before line : ℕ) (run : Run) (framer next : Framer)
-    (packets held : List Packet) (answer : RunSeen) (so_far : GatheringFirst start now before framer packets)
-    (shown : List Packet)
-    → AnswersFirst before now (Ok (Some (line, run))) new → StandsFor next (so_far.halves ++ replicate run.n run.us)
-    → Answers so_far.halves run answer → AreShownBy shown answer.seen
-    → held ≡ packets ++ shown → length shown ≤ 1 → GatheringFirst start new line next held
-GatheringFirst-run start now new before line run framer next packets held answer so_far shown taken stands answers
-    spelled adds one = record {
-      halves = so_far.halves ++ replicate run.n run.us;
-      leads = Leads-join 0 before start now new so_far.halves (first_so_far (replicate run.n run.us) line new)
-          (first_so_far (so_far.halves ++ replicate run.n run.us) line new) so_far.leads taken.0
-          (λ end more last. in_front_twice so_far.halves (replicate run.n run.us) (both_from line new end more last));
-      left = let a = taken.1 in let b = so_far.left in simp (length-append, length-replicate) (omega (arith, a, b));
-      stands = stands;
-      hold = subst (λ (l : List Packet). ArePackets l (so_far.halves ++ replicate run.n run.us)) (sym adds)
-          (packets_more so_far.halves (so_far.halves ++ replicate run.n run.us) answer.seen
-          (length so_far.halves + answer.at - 1) packets shown answers so_far.hold spelled);
-      few = subst (λ (l : List Packet). length l ≤ length (so_far.halves ++ replicate run.n run.us)) (sym adds)
-          (few_more packets shown so_far.halves run so_far.few one taken.2);
+-- more half-bits of the first capture were read, the last of them on line `line`
+pub GatheringFirst-more : {start now new : InputState} {before : ℕ} {framer next : Framer} {packets held : List Packet}
+    (line : ℕ) (more : List ℕ) (so_far : GatheringFirst start now before framer packets)
+    → LeadsTo before now new (first_so_far more line new) → new.halves + length more ≡ now.halves
+    → HoldsPackets next held (so_far.halves ++ more) → GatheringFirst start new line next held
+GatheringFirst-more {start} {now} {new} {before} line more so_far leads taken holds =
+    let left = so_far.left in
+    record {
+      halves = so_far.halves ++ more;
+      leads = Leads-join 0 before start now new so_far.halves (first_so_far more line new)
+          (first_so_far (so_far.halves ++ more) line new) so_far.leads leads
+          (λ end more_bytes last. in_front_twice so_far.halves more (both_from line new end more_bytes last));
+      left = simp length-append (omega (arith, taken, left));
+      holds = holds;
     }
+
+-- a run of the first capture was read, and it showed no packet or one
+pub GatheringFirst-run : {start now new : InputState} {before : ℕ} {framer next : Framer} {packets : List Packet}
+    (line : ℕ) (run : Run) (answer : RunSeen) (shown : List Packet)
+    (so_far : GatheringFirst start now before framer packets)
+    → AnswersFirst before now (Ok (Some (line, run))) new → StandsFor next (so_far.halves ++ replicate run.n run.us)
+    → Answers so_far.halves run answer → AreShownBy shown answer.seen → length shown ≤ 1
+    → GatheringFirst start new line next (packets ++ shown)
+GatheringFirst-run line run answer shown so_far taken stands answers spelled one =
+    let count = length-replicate run.n run.us in
+    let some = taken.2 in
+    let left = taken.1 in
+    GatheringFirst-more line (replicate run.n run.us) so_far taken.0 (omega (arith, count, left))
+    (HoldsPackets-more (replicate run.n run.us) shown answer.seen _ so_far.holds stands answers spelled
+    (omega (arith, one, count, some)))
+
+-- half-bits of the first capture that the buffer has were read
+pub GatheringFirst-halves : {start now new : InputState} {before : ℕ} {framer next : Framer}
+    {packets held : List Packet} (halves : List ℕ) (so_far : GatheringFirst start now before framer packets)
+    → 0 < length halves → TakesHalves now halves new
+    → HoldsPackets next held (so_far.halves ++ halves) → GatheringFirst start new new.lines next held
+GatheringFirst-halves [] so_far some takes holds = absurd (omega arith)
+GatheringFirst-halves {now = now} {new} {before} (us ∷ halves) so_far some takes holds =
+    GatheringFirst-more new.lines (us ∷ halves) so_far
+    (first_halves_taken before now new us halves so_far.leads.fault takes)
+    (halves_taken now new (us ∷ halves) so_far.leads.fault takes).left holds
 
 pub gathers_first : (start now new : InputState) (before : ℕ) (framer : Framer) (packets : List Packet)
     → start.fault ≡ None → GatheringFirst start now before framer packets → AnswersFirst before now (Ok None) new
@@ -87,7 +101,7 @@ pub gathers_first : (start now new : InputState) (before : ℕ) (framer : Framer
 gathers_first start now new before framer packets fault so_far answer = record {
   none_kept = fault;
   halves = so_far.halves;
-  hold = so_far.hold;
+  hold = so_far.holds.hold;
   ends = record {
     line = answer.line;
     leads = Leads-join 0 before start now new so_far.halves (first_is [] answer.line new)

@@ -1,6 +1,6 @@
 -- Two sides, taken in step, and what a verdict on their packets says.
 use Rattle.std.proofs.Common.{◌≡◌, inl, inr, ◌∙◌, ◌++◌, [], sym, ap, subst, Bool, true, false, List, Option, Some, None}
-use Rattle.std.proofs.Common.{append-nil}
+use Rattle.std.proofs.Common.{ℕ, append-nil}
 use Rattle.std.specs.Prelude.{is_none}
 use Rattle.std.specs.Option.{option_to_list}
 use Rattle.dcc_packet.specs.declared.packet.Packet.{Packet}
@@ -57,19 +57,19 @@ compared_both tells leave who input input' verdict packets others both is = reco
 pub gathered : (start now : InputState) (packets : List Packet) → TakesAll (CaptureTook start now) packets
     → Gathered start packets now
 gathered start now packets (progress, ended, took) =
-    subst (λ e. SideRead e start now progress.framer packets) ended took.read
+    subst (λ e. SideRead e start now progress.pending progress.framer packets) ended took.read
 
-reads_on : (ended : Bool) (start now : InputState) (framer : Framer) (packets : List Packet) → start.fault ≡ None
-    → SideRead ended start now framer packets → ReadsOn start now
-reads_on false start now framer packets none read =
+reads_on : (ended : Bool) (start now : InputState) (pending : List ℕ) (framer : Framer) (packets : List Packet)
+    → start.fault ≡ None → SideRead ended start now pending framer packets → ReadsOn start now
+reads_on false start now pending framer packets none read =
     record { none_kept = none; fault = read.gave.items.fault; failures = read.gave.items.failures }
-reads_on true start now framer packets none read =
+reads_on true start now pending framer packets none read =
     record { none_kept = none; fault = read.fault; failures = read.hold.1 }
 
 -- no fault was met of a capture of which some was taken
 pub took_some : (start now : InputState) → TakesSome (CaptureTook start now) → ReadsOn start now
 took_some start now (packets, progress, took) =
-    reads_on progress.ended start now progress.framer packets took.none_kept took.read
+    reads_on progress.ended start now progress.pending progress.framer packets took.none_kept took.read
 
 -- why two captures were not taken to their ends
 pub one_fails : (left right left' right' : InputState) (fault : ToolFault)

@@ -11,5 +11,4 @@ pub mod SpikedCallLemmas
 pub mod SpikedTextLemmas
 pub mod FunctionPlaces
 pub mod PlainFunctionLemmas
-pub mod PlainCallLemmas
 pub mod PlainLaws

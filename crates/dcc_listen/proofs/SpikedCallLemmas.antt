@@ -2,7 +2,8 @@
 use Rattle.std.proofs.Common.{◌≡◌, ◌≢◌, ℕ, ◌+◌, ◌-◌, ◌<◌, ◌≤◌, Bool, List, [], ◌∷◌, ◌++◌, length, replicate, Option}
 use Rattle.std.proofs.Common.{Some}
 use Rattle.std.proofs.Common.{None, Result, Ok, Err, inl, inr, refl, sym, ap, ◌∙◌, subst, arith, append_assoc}
-use Rattle.std.proofs.Common.{append-nil}
+use Rattle.std.proofs.Common.{append-nil, take}
+use Rattle.std.proofs.lemmas.List.{length-take-le}
 use Rattle.std.proofs.Common.{length-append, IfSome, if◌then◌else◌}
 use Rattle.std.proofs.lemmas.List.{length-replicate, replicate_more}
 use Rattle.dcc_lost.specs.declared.joined.SpikedPacket.{SpikedPacket}
@@ -29,8 +30,6 @@ use Rattle.dcc_capture.specs.Shown.{WritesFrontOfLines, WritesLines, WritesLines
 use Rattle.dcc_capture.proofs.ListingLaws.{AreLines-append, AreLines-one}
 use Rattle.dcc_capture.proofs.LinesLemmas.{Listing, OnlyAdds}
 use Rattle.dcc_listen.specs.SpikedListing.{IsSpikedLine}
-use Rattle.dcc_listen.specs.Inner.SpikedRuns.{ListsSpikedRun}
-use Rattle.dcc_listen.proofs.LostCallLemmas.{held_still}
 
 -- more half-bits only add packets before the last joined half-bit
 
@@ -86,139 +85,15 @@ rest_behind before mid after bytes left answer result holds same (inr failed) =
           same failed.2,
     )
 
--- so far a finder has taken these half-bits of a run, and the lines of the packets that they close
--- were written, but for what is held
-pub record Taking (words : Bool) (limit us taken : ℕ) (durations : List ℕ) (finder : SpikeFinder) (before : WriterState)
-    (held left : List ℕ) (after : WriterState) : Type 0 where
-  pub items : List (ℕ × SpikedPacket)
-  pub grows : packets_closed limit (durations ++ replicate taken us) ≡ packets_closed limit durations ++ items
-  pub reads : Joins limit finder (durations ++ replicate taken us)
-  pub text : List ℕ
-  pub lists : AreLines (IsSpikedLine words) items text
-  pub holds : Holds before after (held ++ text) left
-  pub failures : after.failures ≡ before.failures
-
-pub Taking-none : (words : Bool) (limit us : ℕ) (durations : List ℕ) (finder : SpikeFinder) (before : WriterState)
-    (held : List ℕ) → Joins limit finder durations → Taking words limit us 0 durations finder before held held before
-Taking-none words limit us durations finder before held joins = record {
-  items = [];
-  grows = ap (packets_closed limit) (append-nil durations) ∙ sym (append-nil (packets_closed limit durations));
-  reads = subst (Joins limit finder) (sym (append-nil durations)) joins;
-  text = [];
-  lists = refl;
-  holds = held_still before held;
-  failures = refl;
-}
-
-run_more : (durations : List ℕ) (us n : ℕ)
-    → (durations ++ replicate n us) ++ us ∷ [] ≡ durations ++ replicate (n + 1) us
-run_more durations us n =
-    append_assoc durations (replicate n us) (us ∷ [])
-    ∙ ap (λ l. durations ++ l) (replicate_more n us ∙ ap (λ k. replicate k us) (omega arith))
-
 pub run_length : (durations : List ℕ) (us taken start : ℕ) → start ≡ length durations
     → start + taken ≡ length (durations ++ replicate taken us)
 run_length durations us taken start is =
     omega (arith, is, length-append durations (replicate taken us), length-replicate taken us)
 
-pub grows_at : (limit : ℕ) (found : Option SpikedPacket) (durations : List ℕ) (us taken start : ℕ)
-    → start ≡ length durations
-    → packets_closed limit ((durations ++ replicate taken us) ++ us ∷ [])
-    ≡ packets_closed limit (durations ++ replicate taken us)
-    ++ report_found (length (durations ++ replicate taken us)) found
-    → packets_closed limit ((durations ++ replicate taken us) ++ us ∷ [])
-    ≡ packets_closed limit (durations ++ replicate taken us) ++ report_found (start + taken) found
-grows_at limit found durations us taken start is grows =
-    grows ∙ ap (λ n. packets_closed limit (durations ++ replicate taken us) ++ report_found n found)
-    (sym (run_length durations us taken start is))
-
-pub some_at : (found : Option SpikedPacket) (durations : List ℕ) (us taken start : ℕ) → start ≡ length durations
-    → (found ≢ None → 0 < length (durations ++ replicate taken us)) → found ≢ None → 0 < start + taken
-some_at found durations us taken start is later some =
-    omega (arith, later some, run_length durations us taken start is)
-
-module _ {words : Bool} {limit us taken : ℕ} {durations : List ℕ} {finder : SpikeFinder} {before : WriterState}
-    {held left : List ℕ} {after : WriterState}
-    (taking : Taking words limit us taken durations finder before held left after) (found : Option SpikedPacket)
-    (count : ℕ)
-    (grows : packets_closed limit ((durations ++ replicate taken us) ++ us ∷ [])
-    ≡ packets_closed limit (durations ++ replicate taken us) ++ report_found count found) where
-  more : packets_closed limit (durations ++ replicate (taken + 1) us)
-      ≡ packets_closed limit durations ++ (taking.items ++ report_found count found)
-  more =
-      ap (packets_closed limit) (sym (run_more durations us taken)) ∙ grows
-      ∙ ap (λ l. l ++ report_found count found) taking.grows
-      ∙ append_assoc (packets_closed limit durations) taking.items (report_found count found)
-
-  pub Taking-more : {next : SpikeFinder} {later : List ℕ} {final : WriterState}
-      → Joins limit next ((durations ++ replicate taken us) ++ us ∷ [])
-      → HoldsLines (IsSpikedLine words) (report_found count found) after left (Ok tt) later final
-      → Taking words limit us (taken + 1) durations next before held later final
-  Taking-more {next} {later} {final} joins wrote = record {
-    items = taking.items ++ report_found count found;
-    grows = more;
-    reads = subst (Joins limit next) (run_more durations us taken) joins;
-    text = taking.text ++ wrote.0;
-    lists = AreLines-append (IsSpikedLine words) taking.items (report_found count found) taking.text wrote.0
-        taking.lists wrote.1;
-    holds =
-        subst (λ (bytes : List ℕ). Holds before final bytes later) (append_assoc held taking.text wrote.0)
-        (Holds-append _ _ _ _ _ _ _ taking.holds wrote.2.0);
-    failures = wrote.2.1 ∙ taking.failures;
-  }
-
-  pub Taking-fails : {next : SpikeFinder} {later : List ℕ} {final : WriterState} (n : ℕ) (failed : Failed)
-      → taken + 1 ≤ n → Joins limit next ((durations ++ replicate taken us) ++ us ∷ [])
-      → HoldsLines (IsSpikedLine words) (report_found count found) after left (Err failed) later final
-      → ListsSpikedRun words limit (record { us = us; n = n }) durations next before held (Err failed) later final
-  Taking-fails {next} {final = final} n failed few joins wrote = record {
-    taken = taken + 1;
-    within = few;
-    all = tt;
-    items = taking.items ++ report_found count found;
-    grows = more;
-    reads = subst (Joins limit next) (run_more durations us taken) joins;
-    lists = (
-      taking.text ++ wrote.0,
-      AreLines-append (IsSpikedLine words) taking.items (report_found count found) taking.text wrote.0 taking.lists
-          wrote.1,
-      (
-        subst (λ (bytes : List ℕ). AppendsFront before final bytes) (append_assoc held taking.text wrote.0)
-            (Holds-fails_with _ _ _ _ _ _ taking.holds wrote.2.0),
-        subst (λ (n : ℕ). HasRisen n final.failures) taking.failures wrote.2.1,
-      ),
-    );
-  }
-
-pub Taking-all : {words : Bool} {limit us taken : ℕ} {durations : List ℕ} {finder : SpikeFinder} {before : WriterState}
-    {held left : List ℕ} {after : WriterState} → Taking words limit us taken durations finder before held left after
-    → (n : ℕ) → taken ≡ n
-    → ListsSpikedRun words limit (record { us = us; n = n }) durations finder before held (Ok tt) left after
-Taking-all {taken = taken} taking n all = record {
-  taken = taken;
-  within = omega (arith, all);
-  all = all;
-  items = taking.items;
-  grows = taking.grows;
-  reads = taking.reads;
-  lists = (taking.text, taking.lists, (taking.holds, taking.failures));
-}
-
--- a run that was taken as a whole
-pub whole_run : {words : Bool} {limit : ℕ} {run : Run} {durations : List ℕ} {finder : SpikeFinder}
-    {before after : WriterState} {held left : List ℕ}
-    → ListsSpikedRun words limit run durations finder before held (Ok tt) left after
-    → Taking words limit run.us run.n durations finder before held left after
-whole_run {words} {limit} {run} {durations} {finder} {before} {after} {held} {left} ran =
-    subst (λ (n : ℕ). Taking words limit run.us n durations finder before held left after) ran.all (record {
-      items = ran.items;
-      grows = ran.grows;
-      reads = ran.reads;
-      text = ran.lists.0;
-      lists = ran.lists.1;
-      holds = ran.lists.2.0;
-      failures = ran.lists.2.1;
-    })
+pub count_in : (durations halves : List ℕ) (taken start : ℕ) → start ≡ length durations → taken ≤ length halves
+    → start + taken ≡ length (durations ++ take taken halves)
+count_in durations halves taken start is within =
+    omega (arith, is, length-append durations (take taken halves), length-take-le taken halves within)
 
 -- after a failed write, the lines of the packets before the last joined half-bit are some of all lines
 

@@ -3,5 +3,4 @@ pub mod InStep
 pub mod Sides
 pub mod Pushing
 pub mod LostTexts
-pub mod LostRuns
 pub mod SpikedRuns

@@ -1,14 +1,14 @@
-//! Functions that read the packets of the first of two captures in one input.
-ghost use Rattle.std.specs.Prelude.{◌≡◌, ◌<◌, ◌^◌, None, IfOk, IfErr, length};
+//! A function that reads the packets of the first of two captures in one input.
+ghost use Rattle.std.specs.Prelude.{◌<◌, ◌^◌, IfOk, IfErr, length};
 ghost use Rattle.dcc_listen.specs.GatheredBoth.{BothFail, GatheredFirst};
-ghost use Rattle.dcc_listen.specs.Inner.Pushing.{PushesFirst};
 
-use crate::gathering::hold_seen;
+use crate::AT_ONCE;
+use crate::gathering::{hold_halves, hold_seen};
 use dcc_capture::next_of_first;
-use dcc_io::inputs::{line_of_next_byte, take_buffered_half};
-use dcc_io::{Input, KeptFault, Source, ToolFault};
+use dcc_io::inputs::take_buffered_halves;
+use dcc_io::{Input, Source, ToolFault};
 use dcc_packet::Packet;
-use dcc_wire::{Framer, Seen};
+use dcc_wire::Framer;
 use std::alloc::Global;
 
 /// Reads the first of two captures, up to the end of the line `---`, and returns its packets.
@@ -23,38 +23,26 @@ pub fn gather_first<R: Source>(
     if let Some(fault) = input.fault() {
         return Err(ToolFault::from(fault));
     }
+    // the first capture has fewer than 2^32 half-bits
     let most = input.halves_left();
     let mut framer = Framer::new();
     let mut packets = Vec::new(alloc);
     let mut before = 0;
+    let mut halves = [0; AT_ONCE];
     'runs: loop {
-        match push_first(input, &mut framer, before)? {
-            Some((line, seen)) => {
+        let count = take_buffered_halves(input, &mut halves);
+        if count > 0 {
+            before = u64::from(input.lines());
+            hold_halves(&mut packets, &mut framer, &halves[..count])?;
+            continue;
+        }
+        match next_of_first(input, before)? {
+            Some((line, run)) => {
                 before = line;
-                hold_seen(&mut packets, &seen)?;
+                let shown = framer.push_run(run.us, run.n);
+                hold_seen(&mut packets, &shown.seen)?;
             }
             None => return Ok(packets),
         }
-    }
-}
-
-/// Pushes the next run of the first capture to the framer, and returns the line of this run with
-/// the outcome. Most runs are single half-bits that the buffer contains completely.
-#[inline(always)]
-fn push_first<R: Source>(
-    input: &mut Input<R>,
-    framer: &mut Framer,
-    before: u64,
-) -> Result<Option<(u64, Seen)>, KeptFault>
-    requires { input.old.fault ≡ None }
-    ensures { PushesFirst before input.old framer.old result input.new framer.new }
-{
-    let line = line_of_next_byte(input);
-    if let Some(us) = take_buffered_half(input) {
-        return Ok(Some((line, framer.push(us))));
-    }
-    match next_of_first(input, before)? {
-        Some((line, run)) => Ok(Some((line, framer.push_run(run.us, run.n).seen))),
-        None => Ok(None),
     }
 }

@@ -65,7 +65,7 @@ fn give_next<S: Side>(
         × ((start : S) (packets : List PacketOf) → S.took start side.old packets progress.old
         → S.took start side.new (packets ++ option_to_list item) progress.new)
         × (progress.new.ended ≡ is_none item)
-        × (S.left side.new + length (option_to_list item) ≤ S.left side.old)) }
+        × (S.left side.new progress.new + length (option_to_list item) ≤ S.left side.old progress.old)) }
     ensures open { OnOk result (S.is_open side.new) }
     ensures fails { IfErr result (λ fault. (start : S) (packets : List PacketOf)
         → S.took start side.old packets progress.old

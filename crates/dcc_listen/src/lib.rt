@@ -11,6 +11,7 @@ mod in_step;
 pub mod laws;
 mod lost_call;
 mod lost_line;
+mod pending;
 mod plain_call;
 mod plain_functions;
 mod plain_words;

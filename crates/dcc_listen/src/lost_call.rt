@@ -1,17 +1,17 @@
 //! The operation `lost`, which lists the packets that a decoder does not hear.
-ghost use Rattle.std.specs.Prelude.{◌≡◌, ◌<◌, ◌+◌, ◌++◌, ◌^◌, ℕ, List, None, IfSome, length};
-ghost use Rattle.dcc_lost.specs.Causes.{report_lost};
+ghost use Rattle.std.specs.Prelude.{◌≡◌, ◌<◌, ◌+◌, ◌++◌, ◌^◌, ℕ, List, None, IfSome, OnOk, length, replicate};
+ghost use Rattle.dcc_lost.specs.Causes.{packets_lost, report_lost};
 ghost use Rattle.dcc_lost.specs.Reads.{Follows};
 ghost use Rattle.dcc_io.specs.Faults.{as_tool_fault};
 ghost use Rattle.dcc_io.specs.Held.{HoldsOrFails};
 ghost use Rattle.dcc_io.specs.InputState.{ReadHasFailure};
-ghost use Rattle.dcc_capture.specs.HeldRuns.{HoldsLines};
+ghost use Rattle.dcc_capture.specs.HeldRuns.{HoldsLines, HoldsListing};
 ghost use Rattle.dcc_listen.specs.LostListing.{IsLostLine, ListsLost};
-ghost use Rattle.dcc_listen.specs.Inner.LostRuns.{ListsRun};
 
+use crate::AT_ONCE;
 use crate::lost_line::lost_line;
 use dcc_capture::{next_listed_run, write_rest};
-use dcc_io::inputs::take_buffered_half;
+use dcc_io::inputs::take_buffered_halves;
 use dcc_io::{Failed, HeldLines, Input, Run, Sink, Source, ToolFault};
 use dcc_lost::{LostFinder, LostPacket};
 
@@ -61,24 +61,56 @@ fn list<R: Source, W: Sink>(
     let most = input.halves_left();
     let mut finder = LostFinder::new();
     let mut held = HeldLines::new();
+    let mut halves = [0; AT_ONCE];
     'runs: loop {
-        match take_buffered_half(input) {
-            Some(us) => {
-                if finder.take(us) {
-                    let half = most - input.halves_left();
-                    hold_lost(&mut held, half, &finder.packet_at_end(), words, writer)?;
-                }
+        let count = take_buffered_halves(input, &mut halves);
+        if count > 0 {
+            let before = most - input.halves_left() - count as u32;
+            list_halves(
+                &mut finder,
+                &halves[..count],
+                before,
+                words,
+                &mut held,
+                writer,
+            )?;
+            continue;
+        }
+        match next_listed_run(input, &mut held, writer)? {
+            Ok(Some(run)) => {
+                let before = most - input.halves_left() - run.n;
+                list_run(&mut finder, before, run, words, &mut held, writer)?;
             }
-            None => match next_listed_run(input, &mut held, writer)? {
-                Ok(Some(run)) => {
-                    let before = most - input.halves_left() - run.n;
-                    list_run(&mut finder, before, run, words, &mut held, writer)?;
-                }
-                Ok(None) => return write_rest(&mut held, writer, Ok(())),
-                Err(fault) => return write_rest(&mut held, writer, Err(ToolFault::from(fault))),
-            },
+            Ok(None) => return write_rest(&mut held, writer, Ok(())),
+            Err(fault) => return write_rest(&mut held, writer, Err(ToolFault::from(fault))),
         }
     }
+}
+
+/// Appends the lines of the packets that are lost in the half-bits `halves` to the buffer. The
+/// parameter `before` is the number of half-bits before these half-bits.
+fn list_halves<W: Sink>(
+    finder: &mut LostFinder,
+    halves: &[u16],
+    before: u32,
+    words: bool,
+    held: &mut HeldLines,
+    writer: &mut W,
+) -> Result<(), Failed>
+    requires { before + length halves.now < 2 ^ 32 }
+    ensures follows { OnOk result ((durations : List ℕ) → Follows finder.old durations
+        → Follows finder.new (durations ++ halves.now)) }
+    ensures holds { (durations : List ℕ) → Follows finder.old durations → before ≡ length durations
+        → HoldsListing (IsLostLine words) packets_lost durations halves.now (W.state writer.old) held.old result
+        held.new (W.state writer.new) }
+{
+    let mut taken = 0;
+    'halves: while taken < halves.len() {
+        let lost = finder.push(halves[taken]);
+        taken += 1;
+        hold_lost(held, before + taken as u32, &lost, words, writer)?;
+    }
+    Ok(())
 }
 
 /// Appends the lines of the packets that are lost in a run to the buffer. The parameter `before` is
@@ -92,9 +124,11 @@ fn list_run<W: Sink>(
     writer: &mut W,
 ) -> Result<(), Failed>
     requires { before + run.n < 2 ^ 32 }
-    ensures { (durations : List ℕ) → Follows finder.old durations → before ≡ length durations
-        → ListsRun words run durations finder.new (W.state writer.old) held.old result held.new
-        (W.state writer.new) }
+    ensures follows { OnOk result ((durations : List ℕ) → Follows finder.old durations
+        → Follows finder.new (durations ++ replicate run.n run.us)) }
+    ensures holds { (durations : List ℕ) → Follows finder.old durations → before ≡ length durations
+        → HoldsListing (IsLostLine words) packets_lost durations (replicate run.n run.us) (W.state writer.old)
+        held.old result held.new (W.state writer.new) }
 {
     let mut taken = 0;
     'pieces: while taken < run.n {
@@ -106,6 +140,7 @@ fn list_run<W: Sink>(
 }
 
 /// Appends a line to the buffer if a packet is lost at the half-bit with the number `half`.
+#[inline(always)]
 #[tactic(auto, unfolding(dcc_lost::specs::Causes::report_lost))]
 fn hold_lost<W: Sink>(
     held: &mut HeldLines,

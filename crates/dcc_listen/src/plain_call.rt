@@ -1,18 +1,13 @@
 //! The operation `show_plain`, which lists a capture in plain words.
-ghost use Rattle.std.specs.Prelude.{◌≡◌, ◌<◌, ◌+◌, ◌++◌, ℕ, List, None, IfSome, false};
-ghost use Rattle.dcc_wire.specs.Framing.{report_at};
+ghost use Rattle.std.specs.Prelude.{◌≡◌, ℕ, List, None, IfSome};
 ghost use Rattle.dcc_io.specs.Faults.{as_tool_fault};
-ghost use Rattle.dcc_io.specs.Held.{HoldsOrFails};
 ghost use Rattle.dcc_io.specs.InputState.{ReadHasFailure};
-ghost use Rattle.dcc_capture.specs.HeldRuns.{HoldsLines};
-ghost use Rattle.dcc_capture.specs.Listing.{IsLine};
 ghost use Rattle.dcc_listen.specs.PlainListing.{IsPlainLine, ShowsPlain};
 
 use crate::plain_words::{PlainLine, append_plain_words};
-use dcc_capture::{next_listed_run, outcome_line, write_rest};
-use dcc_io::inputs::take_buffered_half;
+use dcc_capture::{LineForm, list_outcomes, outcome_line};
 use dcc_io::{Failed, HeldLines, Input, Sink, Source, ToolFault, append, append_decimal};
-use dcc_wire::{Frame, Framer, Seen};
+use dcc_wire::{Frame, Seen};
 
 /// Writes a line for each outcome of a capture, with packets in plain words. The line begins with the
 /// number of the last half-bit of the outcome, counted from 1.
@@ -41,83 +36,30 @@ pub fn show_plain<R: Source, W: Sink>(input: &mut Input<R>, writer: &mut W) -> R
     if let Some(fault) = input.fault() {
         return Err(ToolFault::from(fault));
     }
-    list(input, writer)
+    list_outcomes(input, writer, &PlainLines)
 }
 
-/// Writes the listing of a capture, up to the first error.
-fn list<R: Source, W: Sink>(input: &mut Input<R>, writer: &mut W) -> Result<(), ToolFault>
-    requires { input.old.fault ≡ None }
-    ensures { ShowsPlain input.old (W.state writer.old) result input.new (W.state writer.new) }
-{
-    let most = input.halves_left();
-    let mut framer = Framer::new();
-    let mut held = HeldLines::new();
-    'runs: loop {
-        match take_buffered_half(input) {
-            Some(us) => {
-                let seen = framer.push(us);
-                let half = most - input.halves_left();
-                hold_seen(&mut held, half, &seen, writer)?;
-            }
-            None => match next_listed_run(input, &mut held, writer)? {
-                Ok(Some(run)) => {
-                    let shown = framer.push_run(run.us, run.n);
-                    let half = most - input.halves_left() - run.n + shown.at;
-                    hold_seen(&mut held, half, &shown.seen, writer)?;
-                }
-                Ok(None) => return write_rest(&mut held, writer, Ok(())),
-                Err(fault) => return write_rest(&mut held, writer, Err(ToolFault::from(fault))),
-            },
+/// The lines of `show_plain`.
+#[derive(Drop)]
+struct PlainLines;
+
+impl LineForm for PlainLines {
+    ghost is_line = { λ form. IsPlainLine };
+
+    #[inline(never)]
+    fn hold<W: Sink>(
+        &self,
+        held: &mut HeldLines,
+        half: u32,
+        seen: &Seen,
+        writer: &mut W,
+    ) -> Result<(), Failed> {
+        match seen {
+            Seen::Packet(frame) => held.hold(plain_line(half, frame).as_slice(), writer),
+            Seen::Nothing => held.hold(outcome_line(half, seen, false).as_slice(), writer),
+            Seen::Refused(_) => held.hold(outcome_line(half, seen, false).as_slice(), writer),
         }
     }
-}
-
-/// Appends a line to the buffer if an outcome ends with the half-bit with the number `half`.
-#[tactic(auto, unfolding(dcc_wire::specs::Framing::report_at))]
-fn hold_seen<W: Sink>(
-    held: &mut HeldLines,
-    half: u32,
-    seen: &Seen,
-    writer: &mut W,
-) -> Result<(), Failed>
-    requires { 0 < half }
-    ensures { (place : ℕ) → half ≡ place + 1
-        → HoldsLines IsPlainLine (report_at place seen.now) (W.state writer.old)
-        held.old result held.new (W.state writer.new) }
-{
-    match seen {
-        Seen::Nothing => Ok(()),
-        Seen::Packet(frame) => hold_packet(held, half, frame, writer),
-        Seen::Refused(_) => hold_refusal(held, half, seen, writer),
-    }
-}
-
-/// Appends the line of the packet that ends with the half-bit with the number `half` to the buffer.
-fn hold_packet<W: Sink>(
-    held: &mut HeldLines,
-    half: u32,
-    frame: &Frame,
-    writer: &mut W,
-) -> Result<(), Failed>
-    ensures { (text : List ℕ) × IsPlainLine half (Seen.Packet frame.now) text
-        × HoldsOrFails (W.state writer.old) (held.old ++ text) result held.new
-        (W.state writer.new) }
-{
-    held.hold(plain_line(half, frame).as_slice(), writer)
-}
-
-/// Appends the line of the refusal that ends with the half-bit with the number `half` to the buffer.
-fn hold_refusal<W: Sink>(
-    held: &mut HeldLines,
-    half: u32,
-    seen: &Seen,
-    writer: &mut W,
-) -> Result<(), Failed>
-    ensures { (text : List ℕ) × IsLine false half seen.now text
-        × HoldsOrFails (W.state writer.old) (held.old ++ text) result held.new
-        (W.state writer.new) }
-{
-    held.hold(outcome_line(half, seen, false).as_slice(), writer)
 }
 
 /// Returns the line of a packet. The parameter `half` is the number of the last half-bit of the

@@ -9,6 +9,7 @@ ghost use Rattle.dcc_io.specs.Faults.{as_tool_fault};
 ghost use Rattle.dcc_listen.specs.declared.side.Progress.{Progress as ProgressOf};
 ghost use Rattle.dcc_listen.specs.Inner.Sides.{TakesRest};
 
+use crate::pending::Pending;
 use crate::taking::next_packet;
 use dcc_io::{Input, KeptFault, Source};
 use dcc_packet::Packet;
@@ -19,6 +20,9 @@ use std::vec::IntoIter;
 /// The state of a side that is being read.
 #[derive(Drop)]
 pub(crate) struct Progress {
+    /// The half-bits that were read from the side, and that the framer has not taken yet.
+    pub(crate) pending: Pending,
+
     /// The framer that has taken the half-bits of the side.
     pub(crate) framer: Framer,
 
@@ -38,7 +42,7 @@ pub(crate) trait Side {
     ghost fails: { Self → Self → ToolFaultOf → Type 0 };
 
     // termination measure, which decreases with each packet
-    ghost left: { Self → ℕ };
+    ghost left: { Self → ProgressOf → ℕ };
 
     /// Returns the state of the side before its first packet.
     fn begin(&self) -> Progress
@@ -59,7 +63,8 @@ pub(crate) trait Side {
             → took start self.old packets progress.old → IfSome item (λ _. length packets < 2 ^ 32 - 1)) }
         ensures ends { IfOk result (λ item. progress.new.ended ≡ is_none item) }
         ensures open { IfOk result (λ _. is_open self.new) }
-        ensures left { IfOk result (λ item. left self.new + length (option_to_list item) ≤ left self.old) };
+        ensures left { IfOk result (λ item. left self.new progress.new + length (option_to_list item)
+            ≤ left self.old progress.old) };
 }
 
 impl<R: Source> Side for Input<R> {
@@ -72,19 +77,20 @@ impl<R: Source> Side for Input<R> {
 
     ghost fails = { λ start now fault. GatherFails start fault now };
 
-    ghost left = { λ input. input.bytes };
+    ghost left = { λ input progress. input.bytes + length progress.pending };
 
     fn begin(&self) -> Progress {
         // each packet takes some of these half-bits, so there are fewer than 2^32 packets
         let most = self.halves_left();
         Progress {
+            pending: Pending::new(),
             framer: Framer::new(),
             ended: false,
         }
     }
 
     fn take_next(&mut self, progress: &mut Progress) -> Result<Option<Packet>, KeptFault> {
-        let item = next_packet(self, &mut progress.framer)?;
+        let item = next_packet(self, &mut progress.pending, &mut progress.framer)?;
         progress.ended = item.is_none();
         Ok(item)
     }
@@ -101,10 +107,11 @@ impl Side for IntoIter<Packet, Global> {
 
     ghost fails = { λ start now fault. ⊥ };
 
-    ghost left = { λ packets. length (into_iter_items packets) };
+    ghost left = { λ packets progress. length (into_iter_items packets) };
 
     fn begin(&self) -> Progress {
         Progress {
+            pending: Pending::new(),
             framer: Framer::new(),
             ended: false,
         }

@@ -1,18 +1,19 @@
 //! The operation `lost_with_spikes`, which lists the packets that a decoder does not hear. The
 //! half-bits are joined with the spikes next to them.
-ghost use Rattle.std.specs.Prelude.{◌≡◌, ◌≢◌, ◌<◌, ◌+◌, ◌++◌, ◌^◌, ℕ, List, None, IfSome, length};
-ghost use Rattle.dcc_lost.specs.JoinedLost.{report_found};
+ghost use Rattle.std.specs.Prelude.{◌≡◌, ◌≢◌, ◌<◌, ◌+◌, ◌++◌, ◌^◌, ℕ, List, None, IfSome, OnOk, length, replicate};
+ghost use Rattle.dcc_lost.specs.JoinedLost.{packets_closed, report_found};
 ghost use Rattle.dcc_lost.specs.Joining.{Joins};
 ghost use Rattle.dcc_io.specs.Faults.{as_tool_fault};
 ghost use Rattle.dcc_io.specs.Held.{HoldsOrFails};
 ghost use Rattle.dcc_io.specs.InputState.{ReadHasFailure};
-ghost use Rattle.dcc_capture.specs.HeldRuns.{HoldsLines};
+ghost use Rattle.dcc_capture.specs.HeldRuns.{HoldsLines, HoldsListing};
 ghost use Rattle.dcc_listen.specs.SpikedListing.{IsSpikedLine, ListsSpiked};
-ghost use Rattle.dcc_listen.specs.Inner.SpikedRuns.{ListsSpikedRun, WritesEnd};
+ghost use Rattle.dcc_listen.specs.Inner.SpikedRuns.{WritesEnd};
 
+use crate::AT_ONCE;
 use crate::spiked_line::spiked_line;
 use dcc_capture::{next_listed_run, write_rest};
-use dcc_io::inputs::take_buffered_half;
+use dcc_io::inputs::take_buffered_halves;
 use dcc_io::{Failed, HeldLines, Input, Run, Sink, Source, ToolFault};
 use dcc_lost::{SpikeFinder, SpikedPacket};
 
@@ -66,24 +67,56 @@ fn list<R: Source, W: Sink>(
     let most = input.halves_left();
     let mut finder = SpikeFinder::new(limit);
     let mut held = HeldLines::new();
+    let mut halves = [0; AT_ONCE];
     'runs: loop {
-        let before = most - input.halves_left();
-        match take_buffered_half(input) {
-            Some(us) => {
-                hold_spiked(&mut held, before, &finder.push(us), words, writer)?;
+        let count = take_buffered_halves(input, &mut halves);
+        let before = most - input.halves_left() - count as u32;
+        if count > 0 {
+            list_halves(
+                &mut finder,
+                &halves[..count],
+                before,
+                words,
+                &mut held,
+                writer,
+            )?;
+            continue;
+        }
+        match next_listed_run(input, &mut held, writer)? {
+            Ok(Some(run)) => list_run(&mut finder, before, run, words, &mut held, writer)?,
+            Ok(None) => return write_end(finder, before, words, &mut held, writer, Ok(())),
+            Err(fault) => {
+                let answer = Err(ToolFault::from(fault));
+                return write_end(finder, before, words, &mut held, writer, answer);
             }
-            None => match next_listed_run(input, &mut held, writer)? {
-                Ok(Some(run)) => list_run(&mut finder, before, run, words, &mut held, writer)?,
-                Ok(None) => {
-                    return write_end(finder, before, words, &mut held, writer, Ok(()));
-                }
-                Err(fault) => {
-                    let answer = Err(ToolFault::from(fault));
-                    return write_end(finder, before, words, &mut held, writer, answer);
-                }
-            },
         }
     }
+}
+
+/// Appends the lines of the packets that the half-bits `halves` close to the buffer. The parameter
+/// `before` is the number of half-bits before these half-bits.
+fn list_halves<W: Sink>(
+    finder: &mut SpikeFinder,
+    halves: &[u16],
+    before: u32,
+    words: bool,
+    held: &mut HeldLines,
+    writer: &mut W,
+) -> Result<(), Failed>
+    requires { before + length halves.now < 2 ^ 32 }
+    ensures joins { OnOk result ((limit : ℕ) (durations : List ℕ) → Joins limit finder.old durations
+        → Joins limit finder.new (durations ++ halves.now)) }
+    ensures holds { (limit : ℕ) (durations : List ℕ) → Joins limit finder.old durations → before ≡ length durations
+        → HoldsListing (IsSpikedLine words) (packets_closed limit) durations halves.now (W.state writer.old) held.old
+        result held.new (W.state writer.new) }
+{
+    let mut taken = 0;
+    'halves: while taken < halves.len() {
+        let found = finder.push(halves[taken]);
+        hold_spiked(held, before + taken as u32, &found, words, writer)?;
+        taken += 1;
+    }
+    Ok(())
 }
 
 /// Appends the lines of the packets that the half-bits of a run close to the buffer. The parameter
@@ -97,13 +130,16 @@ fn list_run<W: Sink>(
     writer: &mut W,
 ) -> Result<(), Failed>
     requires { before + run.n < 2 ^ 32 }
-    ensures { (limit : ℕ) (durations : List ℕ) → Joins limit finder.old durations → before ≡ length durations
-        → ListsSpikedRun words limit run durations finder.new (W.state writer.old) held.old result held.new
-        (W.state writer.new) }
+    ensures joins { OnOk result ((limit : ℕ) (durations : List ℕ) → Joins limit finder.old durations
+        → Joins limit finder.new (durations ++ replicate run.n run.us)) }
+    ensures holds { (limit : ℕ) (durations : List ℕ) → Joins limit finder.old durations → before ≡ length durations
+        → HoldsListing (IsSpikedLine words) (packets_closed limit) durations (replicate run.n run.us)
+        (W.state writer.old) held.old result held.new (W.state writer.new) }
 {
     let mut taken = 0;
     'halves: while taken < run.n {
-        hold_spiked(held, before + taken, &finder.push(run.us), words, writer)?;
+        let found = finder.push(run.us);
+        hold_spiked(held, before + taken, &found, words, writer)?;
         taken += 1;
     }
     Ok(())

@@ -7,25 +7,29 @@ ghost use Rattle.dcc_io.specs.InputState.{InputState};
 ghost use Rattle.dcc_listen.specs.Taking.{Gathering, ReadsPacket};
 ghost use Rattle.dcc_listen.specs.Inner.Pushing.{PushesNext};
 
+use crate::pending::Pending;
 use dcc_capture::read_run;
-use dcc_io::inputs::take_buffered_half;
 use dcc_io::{Input, KeptFault, Source};
 use dcc_packet::Packet;
 use dcc_wire::{Framer, Seen};
 
-/// Returns the next packet of the capture. Returns `None` at the end of the capture.
+/// Returns the next packet of the capture. Returns `None` at the end of the capture. The half-bits
+/// `pending` were read from the input, and the framer has not taken them yet.
 pub(crate) fn next_packet<R: Source>(
     input: &mut Input<R>,
+    pending: &mut Pending,
     framer: &mut Framer,
 ) -> Result<Option<Packet>, KeptFault>
     requires { input.old.fault ≡ None }
     ensures takes { (start : InputState) (packets : List Packet) → start.fault ≡ None
-        → Gathering start input.old framer.old packets → ReadsPacket start packets result input.new framer.new }
+        → Gathering start input.old pending.old framer.old packets
+        → ReadsPacket start packets result input.new pending.new framer.new }
     ensures fault { IfOk result (λ _. input.new.fault ≡ None) }
-    ensures bytes { IfOk result (λ item. input.new.bytes + length (option_to_list item) ≤ input.old.bytes) }
+    ensures bytes { IfOk result (λ item. input.new.bytes + length pending.new + length (option_to_list item)
+        ≤ input.old.bytes + length pending.old) }
 {
     'runs: loop {
-        match push_next(input, framer)? {
+        match push_next(input, pending, framer)? {
             Some(seen) => match packet_in(&seen) {
                 Some(packet) => return Ok(Some(packet)),
                 None => (),
@@ -35,18 +39,23 @@ pub(crate) fn next_packet<R: Source>(
     }
 }
 
-/// Pushes the next run of a capture to the framer, and returns the outcome. Most runs are single
-/// half-bits that the buffer contains completely.
+/// Pushes pending half-bits to the framer, up to the next outcome, and returns this outcome. If no
+/// half-bit is pending, the function pushes the next run of the capture.
 #[inline(always)]
 fn push_next<R: Source>(
     input: &mut Input<R>,
+    pending: &mut Pending,
     framer: &mut Framer,
 ) -> Result<Option<Seen>, KeptFault>
     requires { input.old.fault ≡ None }
-    ensures { PushesNext input.old framer.old result input.new framer.new }
+    ensures { PushesNext input.old pending.old framer.old result input.new pending.new framer.new }
 {
-    if let Some(us) = take_buffered_half(input) {
-        return Ok(Some(framer.push(us)));
+    pending.refill(input);
+    let halves = pending.as_slice();
+    if !halves.is_empty() {
+        let shown = framer.push_many(halves);
+        pending.skip(shown.at);
+        return Ok(Some(shown.seen));
     }
     match read_run(input)? {
         Some(run) => Ok(Some(framer.push_run(run.us, run.n).seen)),

@@ -5,7 +5,7 @@ use Rattle.std.proofs.Common.{Bool, true, false, if◌then◌else◌, Option, So
 use Rattle.std.proofs.Common.{append_assoc, length-append}
 use Rattle.std.proofs.Common.{length-drop}
 use Rattle.std.proofs.Math.Seq.{drop-append_seam, get_or-append_seam}
-use Rattle.std.proofs.lemmas.List.{drop-map, length-map, get_or-map}
+use Rattle.std.proofs.lemmas.List.{drop-map, length-map, get_or-append-add, get_or-map}
 use Rattle.std.specs.Option.{option_or, option_map}
 use Rattle.dcc_wire.specs.declared.half.Half.{Half}
 use Rattle.dcc_wire.specs.declared.half.Half.TheVariants.{One, Zero, Bad}
@@ -150,3 +150,57 @@ packet_none_at_end f longest e = rw e
 pub packet_some_at_end : (f : List ℕ → LostPacket) (longest : Option (List ℕ)) (frame : List ℕ) (packet : LostPacket)
     → longest ≡ Some frame → packet ≡ f frame → Some packet ≡ option_map f longest
 packet_some_at_end f longest frame packet e is = rw (e, is)
+
+-- the half-bits before a body, and its first half-bit
+
+class_at : (durations : List ℕ) (halves : List Half) (i : ℕ) (class : Half) → map nearest_class durations ≡ halves
+    → i < length durations → get_or halves i Bad ≡ class → nearest_class (get_or durations i 0) ≡ class
+class_at durations halves i class is within at =
+    sym (get_or-map nearest_class durations i 0 Bad within) ∙ ap (λ l. get_or l i Bad) is ∙ at
+
+first_of_body : (frame : List ℕ) → 0 < length frame → get_or (body frame) 0 Bad ≡ Zero
+unfolding body body_bits halves_of
+first_of_body [] some = absurd (omega (arith, some))
+first_of_body (byte ∷ bytes) some = refl
+
+pub body_begins : (durations frame : List ℕ) → EndsWithFrame durations frame
+    → (nearest_class (get_or durations (length durations - (18 * length frame + 3)) 0) ≡ One)
+    × (nearest_class (get_or durations (length durations - (18 * length frame + 2)) 0) ≡ Zero)
+body_begins durations frame ends =
+    let ones : List Half = ends.before ++ replicate 7 One in
+    let some : length (body frame) ≡ 18 * length frame + 2 = length-body frame in
+    let whole : map nearest_class durations ≡ ones ++ One ∷ body frame =
+    ends.halves ∙ sym (append_assoc ends.before (replicate 7 One) (One ∷ body frame)) in
+    let count : length durations ≡ length ones + (18 * length frame + 3) = omega
+    (arith, length-map durations nearest_class, ap length whole, length-append ones (One ∷ body frame), some) in
+    let first : length durations - (18 * length frame + 3) ≡ length ones = omega (arith, count) in
+    let next : length durations - (18 * length frame + 2) ≡ length ones + 1 = omega (arith, count) in (
+      rw first (class_at durations (ones ++ One ∷ body frame) (length ones) One whole (omega (arith, count))
+          (get_or-append_seam ones One (body frame) Bad)),
+      rw next (class_at durations (ones ++ One ∷ body frame) (length ones + 1) Zero whole (omega (arith, count))
+          (get_or-append-add ones (One ∷ body frame) 1 Bad
+          ∙ first_of_body frame (omega (arith, ends.frame_rule.least)))),
+    )
+
+-- without the first half-bits of a body no frame is at the end
+pub no_body : (durations : List ℕ)
+    → ((m : ℕ) → 3 ≤ m → m ≤ 6 → HasStartBits (keep_last 56 durations)
+    → nearest_class (get_or durations (length durations - (18 * m + 3)) 0) ≡ One
+    → nearest_class (get_or durations (length durations - (18 * m + 2)) 0) ≡ Zero → ⊥)
+    → longest_frame_at_end durations ≡ None
+unfolding longest_frame_at_end
+no_body durations none =
+    no_first (frame_at_end 6 durations) _ (other 6 (omega arith) (omega arith))
+    (no_first (frame_at_end 5 durations) _ (other 5 (omega arith) (omega arith))
+    (no_first (frame_at_end 4 durations) _ (other 4 (omega arith) (omega arith))
+    (alone (frame_at_end 3 durations) (other 3 (omega arith) (omega arith)))))
+  where
+    other : (m : ℕ) → 3 ≤ m → m ≤ 6 → (frame : List ℕ) → frame_at_end m durations ≡ Some frame → ⊥
+    other m least most frame e =
+        let ends = ends_with m durations frame e in
+        let begins = rw ends.1 at (body_begins durations frame ends.0) in
+        none m least most (starts_at_end durations frame ends.0) begins.0 begins.1
+
+    alone : (a : Option (List ℕ)) → ((frame : List ℕ) → a ≡ Some frame → ⊥) → a ≡ None
+    alone None not_it = refl
+    alone (Some frame) not_it = absurd (not_it frame refl)

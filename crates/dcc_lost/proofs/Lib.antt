@@ -1,5 +1,6 @@
 pub mod NearestLemmas
 pub mod BodyFigures
+mod OneFigures
 pub mod BodyLemmas
 pub mod FrameLemmas
 pub mod HeardLemmas

@@ -1,7 +1,7 @@
 -- Definitions that only contracts of private functions use.
-use Rattle.std.specs.Prelude.{◌≡◌, ℕ, ◌+◌, min, List, length, get_or, Option, None, Some}
+use Rattle.std.specs.Prelude.{◌≡◌, ◌⊎◌, ℕ, suc, zero, ◌+◌, min, List, [], ◌∷◌, ◌++◌, length, get_or, Option, None, Some}
 use Rattle.std.specs.Option.{option_map}
-use Rattle.dcc_wire.specs.declared.half.Half.TheVariants.{Zero}
+use Rattle.dcc_wire.specs.declared.half.Half.TheVariants.{One, Zero}
 use Rattle.dcc_wire.specs.declared.seen.Seen.{Seen}
 use Rattle.dcc_wire.specs.declared.seen.Seen.TheVariants.{Nothing, Packet, Refused}
 use Rattle.dcc_wire.specs.Outcomes.{ones_left}
@@ -41,3 +41,27 @@ abbrev pub HasStartBits : List ℕ → Type 0
 HasStartBits halves =
     (length halves ≡ 56) × (nearest_class (get_or halves 0 0) ≡ Zero) × (nearest_class (get_or halves 18 0) ≡ Zero)
     × (nearest_class (get_or halves 36 0) ≡ Zero)
+
+-- a body can begin after the place `at` of `halves`: the half-bit at this place has the nearest class
+-- One, and the next half-bit has the nearest class Zero
+abbrev pub BeginsBody : List ℕ → ℕ → Type 0
+BeginsBody halves at = (nearest_class (get_or halves at 0) ≡ One) × (nearest_class (get_or halves (at + 1) 0) ≡ Zero)
+
+-- The half-bits `last` are the last 130 half-bits of a list, and `n + 1` half-bits of ones follow
+-- them. A body of 3, 4, 5 or 6 bytes can begin that ends with the last of these ones.
+abbrev pub CanBeginBody : List ℕ → ℕ → Type 0
+CanBeginBody last n =
+    BeginsBody last (n + 74) ⊎ (BeginsBody last (n + 56) ⊎ (BeginsBody last (n + 38) ⊎ BeginsBody last (n + 20)))
+
+-- The half-bits `last` are the last 130 half-bits of a list, and `n + 1` half-bits of ones follow
+-- them. In the longer list the half-bits that begin the zeros before the last three bytes have the
+-- nearest class Zero, and a body can begin.
+abbrev pub CanEndFrame : List ℕ → ℕ → Type 0
+CanEndFrame last n =
+    (nearest_class (get_or last (n + 75) 0) ≡ Zero) × (nearest_class (get_or last (n + 93) 0) ≡ Zero)
+    × (nearest_class (get_or last (n + 111) 0) ≡ Zero) × CanBeginBody last n
+
+-- the `n` numbers from `first` on, each at most 65535
+unfoldable pub rising : ℕ → ℕ → List ℕ
+rising first zero = []
+rising first (suc n) = rising first n ++ min 65535 (first + n) ∷ []

@@ -7,7 +7,7 @@ ghost use Rattle.dcc_lost.specs.Figures.{AreTrackFigures, ended_preamble};
 
 use crate::causes::first_or_zero;
 use crate::finder::{are_all, has_start_bits, longest_frame_at_end};
-use crate::nearest::is_nearest_one;
+use crate::nearest::{is_nearest_one, is_nearest_zero};
 use dcc_timing::{LastNumbers, Timings};
 use dcc_wire::{Fault, Frame, Seen};
 
@@ -156,8 +156,8 @@ impl TrackFigures {
         ensures count { self.new.timings.halves ≡ self.old.timings.halves + 1 }
     {
         match us {
-            52..=64 => self.push_inline(us),
-            90..=10000 => self.push_inline(us),
+            52..=64 => self.push_inline(us, false),
+            90..=10000 => self.push_inline(us, false),
             _ => self.push_apart(us),
         }
     }
@@ -176,12 +176,50 @@ impl TrackFigures {
     {
         let mut at = 0;
         'halves: while at < halves.len() {
-            at += self.pass_bits(&halves[at..]);
+            at += self.pass_some(&halves[at..]);
             if at < halves.len() {
-                self.push(halves[at]);
+                self.push_inline(halves[at], true);
                 at += 1;
             }
         }
+    }
+
+    /// Appends half-bits at the beginning of `halves` that form bits of an unfinished body, or that
+    /// belong to a preamble. Returns the number of these half-bits.
+    #[inline(always)]
+    fn pass_some(&mut self, halves: &[u16]) -> usize
+        requires { self.old.timings.halves + length halves.now < 2 ^ 32 }
+        ensures measures { (durations : List ℕ) → MeasuresTrack self.old durations
+            → MeasuresTrack self.new (durations ++ take result halves.now) }
+        ensures count { self.new.timings.halves ≡ self.old.timings.halves + result }
+        ensures within { result ≤ length halves.now }
+    {
+        if self.timings.is_hunting() {
+            self.pass_ones(halves)
+        } else {
+            self.pass_bits(halves)
+        }
+    }
+
+    /// Appends half-bits of the class One at the beginning of `halves`, while no body is unfinished
+    /// and no packet can be lost. Returns the number of these half-bits. The longer list must have
+    /// fewer than 2^32 half-bits.
+    fn pass_ones(&mut self, halves: &[u16]) -> usize
+        requires { self.old.timings.halves + length halves.now < 2 ^ 32 }
+        ensures measures { (durations : List ℕ) → MeasuresTrack self.old durations
+            → MeasuresTrack self.new (durations ++ take result halves.now) }
+        ensures count { self.new.timings.halves ≡ self.old.timings.halves + result }
+        ensures within { result ≤ length halves.now }
+    {
+        let most = ones_without_end(self.timings.recent().last(130)).min(halves.len());
+        let count = self.timings.pass_ones(&halves[..most]);
+        if count == 0 {
+            return count;
+        }
+        push_rising(&mut self.preambles, self.ones.min(self.unused), count);
+        self.ones = self.ones.saturating_add(count as u16);
+        self.unused = self.unused.saturating_add(count as u16);
+        count
     }
 
     /// Appends half-bits at the beginning of `halves` that form bits of an unfinished body and do not
@@ -214,12 +252,13 @@ impl TrackFigures {
             → MeasuresTrack self.new (durations ++ us ∷ []) }
         ensures count { self.new.timings.halves ≡ self.old.timings.halves + 1 }
     {
-        self.push_inline(us)
+        self.push_inline(us, false)
     }
 
-    /// Appends a half-bit of `us` microseconds to the list.
+    /// Appends a half-bit of `us` microseconds to the list. The parameter `at_once` changes only the
+    /// speed, as in [`Timings::push_shown`].
     #[inline(always)]
-    fn push_inline(&mut self, us: u16)
+    fn push_inline(&mut self, us: u16, at_once: bool)
         requires { self.old.timings.halves + 1 < 2 ^ 32 }
         ensures history { ∥ ((durations : List ℕ) × MeasuresTrack self.old durations) ∥₁ }
         ensures measures { (durations : List ℕ) → MeasuresTrack self.old durations
@@ -227,7 +266,7 @@ impl TrackFigures {
         ensures count { self.new.timings.halves ≡ self.old.timings.halves + 1 }
     {
         if !self.timings.pass(us) {
-            self.push_shown(us);
+            self.push_shown(us, at_once);
             return;
         }
         self.preambles.push(self.ones.min(self.unused));
@@ -240,9 +279,10 @@ impl TrackFigures {
             .count(&self.timings, &self.preambles, &Seen::Nothing);
     }
 
-    /// Appends a half-bit of `us` microseconds that has an outcome to the list.
+    /// Appends a half-bit of `us` microseconds that has an outcome to the list. The parameter `at_once`
+    /// changes only the speed, as in [`Timings::push_shown`].
     #[inline(never)]
-    fn push_shown(&mut self, us: u16)
+    fn push_shown(&mut self, us: u16, at_once: bool)
         requires room { self.old.timings.halves + 1 < 2 ^ 32 }
         requires shows { (halves : List ℕ) → StandsFor (kept_rest self.old.timings.framer) halves
             → seen (halves ++ us ∷ []) ≢ seen halves }
@@ -253,7 +293,7 @@ impl TrackFigures {
     {
         let preamble = self.ones.min(self.unused);
         let ones = ones_next(self.ones, us);
-        let seen = self.timings.push_shown(us);
+        let seen = self.timings.push_shown(us, at_once);
         self.preambles.push(preamble);
         self.ones = ones;
         self.unused = unused_next(self.unused, &seen, self.timings.is_hunting());
@@ -431,6 +471,83 @@ fn ones_next(ones: u16, us: u16) -> u16
     } else {
         0
     }
+}
+
+ghost use Rattle.std.specs.Prelude.{◌<◌, ◌≤◌, ◌+◌, ℕ, List};
+ghost use Rattle.dcc_lost.specs.Inner.{BeginsBody, CanBeginBody, CanEndFrame, rising};
+
+/// Returns a number of half-bits of ones that can follow the half-bits `last`, so that none of them
+/// ends a frame. The half-bits `last` are the last 130 half-bits of a list. Returns 0 if there are
+/// fewer.
+#[inline(always)]
+fn ones_without_end(last: &[u16]) -> usize
+    ensures quiet { (n : ℕ) → n < result → n < 19 → CanEndFrame last.now n → ⊥ }
+    ensures whole { 0 < result → length last.now ≡ 130 }
+    ensures few { result ≤ 55 }
+{
+    if last.len() != 130 {
+        return 0;
+    }
+    let mut count = 0;
+    // (after 20 ones, a half-bit of a one stands where the last byte would begin)
+    'ones: while count < 19 {
+        if can_end_frame(last, count) {
+            return count;
+        }
+        count += 1;
+    }
+    55
+}
+
+/// Returns true if a frame can end with the last of `n + 1` half-bits of ones that follow `last`: the
+/// zeros before its last three bytes are there, and a one is before its body.
+#[inline(always)]
+fn can_end_frame(last: &[u16], n: usize) -> bool
+    requires few { n < 19 }
+    requires whole { length last.now ≡ 130 }
+    ensures { IsTrue result ↔ CanEndFrame last.now n }
+{
+    is_nearest_zero(last[n + 75])
+        && is_nearest_zero(last[n + 93])
+        && is_nearest_zero(last[n + 111])
+        && can_begin_body(last, n)
+}
+
+/// Returns true if one of the bodies of three to six bytes can begin that end with the last of `n + 1`
+/// half-bits of ones after `last`.
+fn can_begin_body(last: &[u16], n: usize) -> bool
+    requires few { n < 19 }
+    requires whole { length last.now ≡ 130 }
+    ensures { IsTrue result ↔ CanBeginBody last.now n }
+{
+    begins_body(last, n + 74)
+        || begins_body(last, n + 56)
+        || begins_body(last, n + 38)
+        || begins_body(last, n + 20)
+}
+
+/// Returns true if the half-bit at the place `at` of `halves` has the nearest class One, and the next
+/// half-bit has the nearest class Zero.
+#[inline(always)]
+fn begins_body(halves: &[u16], at: usize) -> bool
+    requires { at + 1 < length halves.now }
+    ensures { IsTrue result ↔ BeginsBody halves.now at }
+{
+    is_nearest_one(halves[at]) && is_nearest_zero(halves[at + 1])
+}
+
+/// Appends the `n` numbers from `first` on to `numbers`, each at most 65535.
+#[inline(always)]
+fn push_rising(numbers: &mut LastNumbers, first: u16, n: usize)
+    requires { n ≤ 55 }
+    ensures { (list : List ℕ) → recent_numbers numbers.old ≡ keep_last 130 list
+        → recent_numbers numbers.new ≡ keep_last 130 (list ++ rising first n) }
+{
+    let mut rising = [0; 55];
+    for i in 0..n {
+        rising[i] = first.saturating_add(i as u16);
+    }
+    numbers.append(&rising[..n]);
 }
 
 /// Returns the number of half-bits of ones at the end of a list, at most 65535, to which the half-bits

@@ -1,6 +1,7 @@
 //! Tests that compare lists of packets, as whole lists and packet by packet.
 //! `examples/rows/same.txt` has these lists as captures.
 
+use crate::checks::check;
 use crate::rows::{column, number};
 use dcc_order::*;
 use dcc_packet::Packet;
@@ -9,41 +10,58 @@ use dcc_saved::read_who;
 use dcc_wire::Frame;
 use std::alloc::Global;
 use std::process::Abort;
-use std::test::Fail;
+
+/// Letters, and the packet line for which each letter stands.
+const LETTERS: [(u8, &str); 12] = [
+    // a speed for locomotive 3, which turns F0 on in 14 speed steps
+    (b'X', "frame 037477"),
+    // sets bit 1 of CV29 of locomotive 3 to 0, which selects 14 speed steps
+    (b'C', "frame 03e81cf106"),
+    // sets bit 1 of CV29 of locomotive 3 to 1, which selects 28 speed steps
+    (b'D', "frame 03e81cf90e"),
+    // two more speeds for locomotive 3
+    (b'P', "frame 036261"),
+    (b'Q', "frame 037f7c"),
+    // functions of locomotive 3, a speed for locomotive 4, and a reset of all decoders
+    (b'F', "frame 038182"),
+    (b'O', "frame 046266"),
+    (b'R', "frame 000000"),
+    // turns on output 5 of board 12, and then output 4, which is in the same pair
+    (b'1', "frame 8cfd71"),
+    (b'2', "frame 8cf579"),
+    // turns binary state 5 of locomotive 3 on, and then off
+    (b'U', "frame 03dd855b"),
+    (b'V', "frame 03dd05db"),
+];
 
 /// Returns the packet line for which a letter stands.
 fn line_of(letter: u8) -> &'static str {
-    match letter {
-        // a speed for locomotive 3, which turns F0 on in 14 speed steps
-        b'X' => "frame 037477",
-        // sets bit 1 of CV29 of locomotive 3 to 0, which selects 14 speed steps
-        b'C' => "frame 03e81cf106",
-        // sets bit 1 of CV29 of locomotive 3 to 1, which selects 28 speed steps
-        b'D' => "frame 03e81cf90e",
-        // two more speeds for locomotive 3
-        b'P' => "frame 036261",
-        b'Q' => "frame 037f7c",
-        // functions of locomotive 3, a speed for locomotive 4, and a reset of all decoders
-        b'F' => "frame 038182",
-        b'O' => "frame 046266",
-        b'R' => "frame 000000",
-        // turns on output 5 of board 12, and then output 4, which is in the same pair
-        b'1' => "frame 8cfd71",
-        b'2' => "frame 8cf579",
-        // turns binary state 5 of locomotive 3 on, and then off
-        b'U' => "frame 03dd855b",
-        b'V' => "frame 03dd05db",
-        _ => "idle",
+    let mut found = "idle";
+    for (name, line) in LETTERS {
+        if name == letter {
+            found = line;
+        }
     }
+    found
+}
+
+/// Returns the packet for which a letter stands.
+fn packet_of(rt: &impl Abort, letter: u8) -> Packet {
+    let line = line_of(letter);
+    Packet::from_line(line).expect(rt, line)
 }
 
 /// Returns the list of the packets for which the letters in `letters` stand.
-fn packets_of(alloc: Global, letters: &str) -> Result<Vec<Packet>, Fail> {
+fn packets_of(rt: &impl Abort, alloc: Global, letters: &str) -> Vec<Packet> {
     let mut packets = Vec::new(alloc);
     for letter in letters.as_bytes() {
-        packets.push(Packet::from_line(line_of(*letter))?)?;
+        packets.push(packet_of(rt, *letter)).expect(rt, "memory");
     }
-    Ok(packets)
+    packets
+}
+
+fn who_of(rt: &impl Abort, word: &str) -> Who {
+    read_who(word).expect(rt, word)
 }
 
 /// Returns true if the text `words` is the text of the verdict.
@@ -68,26 +86,61 @@ fn compared(
     who: Who,
     left: &[Packet],
     right: &[Packet],
-) -> Result<(Verdict, u64), NoMemory> {
-    assert!(rt; left.len() <= 2000 && right.len() <= 2000);
-    let whole = compare(alloc, who, left, right)?;
+) -> (Verdict, u64) {
+    let whole = compared_as_whole(rt, alloc, who, left, right);
     let mut comparer = Comparer::new(alloc, who);
     let mut most = 0;
     for _ in 0..4003u32 {
-        let given = comparer.given();
-        assert!(rt; given.0 <= 2000 && given.1 <= 2000);
-        let item = match comparer.wants() {
-            Wants::Left => left.get(given.0 as usize).copied(),
-            Wants::Right => right.get(given.1 as usize).copied(),
-            Wants::Done(verdict) => {
-                assert!(rt; verdict == whole);
-                return Ok((whole, most));
-            }
-        };
-        comparer.give(item)?;
-        most = most.max(comparer.held());
+        if wanted(&comparer).is_some() {
+            break;
+        }
+        most = most.max(give_next(rt, &mut comparer, left, right));
     }
-    panic!(rt; "no verdict");
+    check(rt, wanted(&comparer) == Some(whole), "another verdict");
+    (whole, most)
+}
+
+/// Compares two lists of at most 2,000 packets as a whole.
+fn compared_as_whole(
+    rt: &impl Abort,
+    alloc: Global,
+    who: Who,
+    left: &[Packet],
+    right: &[Packet],
+) -> Verdict {
+    assert!(rt; left.len() <= 2000 && right.len() <= 2000);
+    compare(alloc, who, left, right).expect(rt, "memory")
+}
+
+/// Returns the verdict of the comparer, or `None` if it wants a packet.
+fn wanted(comparer: &Comparer) -> Option<Verdict> {
+    match comparer.wants() {
+        Wants::Left | Wants::Right => None,
+        Wants::Done(verdict) => Some(verdict),
+    }
+}
+
+/// Gives the comparer the next packet of the list that it wants. Returns the number of packets that
+/// the comparer then stores.
+fn give_next(rt: &impl Abort, comparer: &mut Comparer, left: &[Packet], right: &[Packet]) -> u64 {
+    let item = next_item(comparer, left, right);
+    give(rt, comparer, item);
+    comparer.held()
+}
+
+fn give(rt: &impl Abort, comparer: &mut Comparer, item: Option<Packet>) {
+    let given = comparer.given();
+    assert!(rt; given.0 <= 2000 && given.1 <= 2000);
+    comparer.give(item).expect(rt, "memory");
+}
+
+/// Returns the next packet of the list that the comparer wants, or `None` at the end of this list.
+fn next_item(comparer: &Comparer, left: &[Packet], right: &[Packet]) -> Option<Packet> {
+    let given = comparer.given();
+    match comparer.wants() {
+        Wants::Left => left.get(given.0 as usize).copied(),
+        _ => right.get(given.1 as usize).copied(),
+    }
 }
 
 /// The columns of a row are the name, the decoder, two lists, the verdict, and the greatest number
@@ -123,35 +176,50 @@ const ROWS: &str = "\
     states_of_another | l1000 | UV | VU | alike";
 
 #[test]
-fn verdicts(rt: HostRuntime) -> Result<(), Fail> {
+fn verdicts(rt: HostRuntime) {
     for row in ROWS.lines() {
-        let who = read_who(column(row, 1))?;
-        let left = packets_of(rt.alloc(), column(row, 2))?;
-        let right = packets_of(rt.alloc(), column(row, 3))?;
-        let (verdict, held) = compared(&rt, rt.alloc(), who, left.as_slice(), right.as_slice())?;
-        assert!(rt; is_told(verdict, column(row, 4)), "{row}");
-        let most = column(row, 5);
-        assert!(rt; most.is_empty() || held == u64::from(number(most)), "{row}");
+        check_row(&rt, rt.alloc(), row);
     }
-    Ok(())
+}
+
+/// Checks a row of `ROWS`.
+fn check_row(rt: &impl Abort, alloc: Global, row: &str) {
+    let who = who_of(rt, column(row, 1));
+    let left = packets_of(rt, alloc, column(row, 2));
+    let right = packets_of(rt, alloc, column(row, 3));
+    let (verdict, held) = compared(rt, alloc, who, left.as_slice(), right.as_slice());
+    check(rt, is_told(verdict, column(row, 4)), row);
+    let most = column(row, 5);
+    check(rt, most.is_empty() || held == u64::from(number(most)), row);
 }
 
 #[test]
-fn nothing_changes_once_it_is_done(rt: HostRuntime) -> Result<(), Fail> {
-    let mut comparer = Comparer::new(rt.alloc(), read_who("s3")?);
-    comparer.give(None)?;
-    assert!(rt; comparer.wants() == Wants::Right);
-    comparer.give(None)?;
-    assert!(rt; comparer.wants() == Wants::Done(Verdict::Alike));
-    comparer.give(Some(Packet::from_line(line_of(b'P'))?))?;
-    assert!(rt; comparer.wants() == Wants::Done(Verdict::Alike));
-    assert!(rt; comparer.given() == (0, 0));
-    Ok(())
+fn nothing_changes_once_it_is_done(rt: HostRuntime) {
+    let mut comparer = Comparer::new(rt.alloc(), who_of(&rt, "s3"));
+    give(&rt, &mut comparer, None);
+    check(&rt, wants(&comparer) == Wants::Right, "the second list");
+    give(&rt, &mut comparer, None);
+    check(
+        &rt,
+        wants(&comparer) == Wants::Done(Verdict::Alike),
+        "alike",
+    );
+    give(&rt, &mut comparer, Some(packet_of(&rt, b'P')));
+    check(
+        &rt,
+        wants(&comparer) == Wants::Done(Verdict::Alike),
+        "alike",
+    );
+    check(&rt, comparer.given() == (0, 0), "nothing given");
+}
+
+fn wants(comparer: &Comparer) -> Wants {
+    comparer.wants()
 }
 
 /// Returns a block of 1,000 packets with 256 different speeds for locomotive 3, and two more speeds
 /// at its end. Every two different speeds for one locomotive conflict.
-fn block(alloc: Global, first: u8, second: u8) -> Result<Vec<Packet>, Fail> {
+fn block(rt: &impl Abort, alloc: Global, first: u8, second: u8) -> Vec<Packet> {
     let mut packets = Vec::new(alloc);
     let mut number = 7u8;
     for at in 0..1002u32 {
@@ -161,19 +229,23 @@ fn block(alloc: Global, first: u8, second: u8) -> Result<Vec<Packet>, Fail> {
             1001 => second,
             _ => number,
         };
-        packets.push(Packet::read(&Frame::with_error_byte(&[0x03, 0x3F, bits])?))?;
+        packets.push(speed(rt, bits)).expect(rt, "memory");
     }
-    Ok(packets)
+    packets
+}
+
+/// Returns the packet that sets a speed in 128 steps for locomotive 3.
+fn speed(rt: &impl Abort, bits: u8) -> Packet {
+    Packet::read(&Frame::with_error_byte(&[0x03, 0x3F, bits]).expect(rt, "a frame"))
 }
 
 #[test]
-fn long_blocks(rt: HostRuntime) -> Result<(), Fail> {
-    let s3 = read_who("s3")?;
-    let one = block(rt.alloc(), 0x84, 0x85)?;
-    let turned = block(rt.alloc(), 0x85, 0x84)?;
-    let same = compared(&rt, rt.alloc(), s3, one.as_slice(), one.as_slice())?;
-    assert!(rt; same.0 == Verdict::Alike);
-    let other = compared(&rt, rt.alloc(), s3, one.as_slice(), turned.as_slice())?;
-    assert!(rt; other.0 == Verdict::Order(0));
-    Ok(())
+fn long_blocks(rt: HostRuntime) {
+    let s3 = who_of(&rt, "s3");
+    let one = block(&rt, rt.alloc(), 0x84, 0x85);
+    let turned = block(&rt, rt.alloc(), 0x85, 0x84);
+    let same = compared(&rt, rt.alloc(), s3, one.as_slice(), one.as_slice());
+    check(&rt, same.0 == Verdict::Alike, "alike");
+    let other = compared(&rt, rt.alloc(), s3, one.as_slice(), turned.as_slice());
+    check(&rt, other.0 == Verdict::Order(0), "another order");
 }

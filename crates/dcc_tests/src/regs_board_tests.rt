@@ -2,8 +2,8 @@
 
 use crate::regs_examples::*;
 use dcc_packet::Board;
-use dcc_regs::{BoardDecoder, Decoder, PackedBoard, Register, Value, same_registers};
-use std::test::Fail;
+use dcc_regs::{PackedBoard, Register, Value};
+use std::process::Abort;
 
 /// Turns on output 4 of board 12. The next two packets are for all boards.
 const FOUR_ON: &str = "frame 8cfc70";
@@ -87,36 +87,42 @@ const BOARDS: [BoardRow; 24] = [
 ];
 
 #[test]
-fn boards(rt: HostRuntime) -> Result<(), Fail> {
+fn boards(rt: HostRuntime) {
     for (lines, register, value) in BOARDS {
-        holds(&rt, &heard_by_board(&rt, lines)?, register, value);
+        holds(&rt, &heard_by_board(&rt, lines), register, value);
     }
-    Ok(())
 }
 
 /// Checks that power-up turns the outputs off and leaves all other registers unchanged.
 #[test]
-fn boards_at_power_up(rt: HostRuntime) -> Result<(), Fail> {
-    let board = Board::new(12)?;
-    let mut plain = BoardDecoder::new(board)?;
-    let mut packed = PackedBoard::new(board)?;
-    hear(&mut plain, &[FIVE_ON, "signal 51 7"])?;
-    hear(&mut packed, &[FIVE_ON, "signal 51 7"])?;
+fn boards_at_power_up(rt: HostRuntime) {
+    let mut plain = heard_by_board(&rt, &SET);
+    let mut packed = packed_board(&rt);
+    hear(&rt, &mut packed, &SET);
     plain.power_up();
     packed.power_up();
-    assert!(rt; same_registers(&plain, &packed));
+    are_same(&rt, &plain, &packed, &SET);
     holds(&rt, &plain, Register::Out(5), OFF);
     holds(&rt, &plain, Register::Position(2), SIDE_1);
     holds(&rt, &plain, Register::Aspect(3), Value::Number(7));
-    let none = [
-        Register::Out(8),
-        Register::Position(4),
-        Register::Aspect(4),
-        Register::Speed,
-        Register::State(5),
-    ];
-    lacks(&rt, &plain, &none);
-    lacks(&rt, &packed, &none);
-    lacks(&rt, &heard_by_board(&rt, &["frame 00dd8558"])?, &none);
-    Ok(())
+    lacks(&rt, &plain, &NONE);
+    lacks(&rt, &packed, &NONE);
+    lacks(&rt, &heard_by_board(&rt, &["frame 00dd8558"]), &NONE);
+}
+
+/// Packets that set an output, the position of its pair, and an aspect.
+const SET: [&str; 2] = [FIVE_ON, "signal 51 7"];
+
+/// Registers that no accessory decoder has.
+const NONE: [Register; 5] = [
+    Register::Out(8),
+    Register::Position(4),
+    Register::Aspect(4),
+    Register::Speed,
+    Register::State(5),
+];
+
+fn packed_board(rt: &impl Abort) -> PackedBoard {
+    let board = Board::new(12).expect(rt, "a board");
+    PackedBoard::new(board).expect(rt, "a board")
 }

@@ -1,7 +1,7 @@
 //! Functions and packets that several worked examples use. A packet is written as the packet line
 //! `frame` with its bytes in hex.
 
-use dcc_packet::{Board, Packet, PacketFault};
+use dcc_packet::{Board, Packet};
 use dcc_regs::{
     BoardDecoder, Decoder, LocoDecoder, PackedBoard, PackedLoco, Register, Speed, Value,
     same_registers,
@@ -40,39 +40,43 @@ pub fn cvs(cv29: u8) -> [u8; 1024] {
 }
 
 /// Applies the packets of the packet lines `lines` to a decoder, one after the other.
-pub fn hear(decoder: &mut dyn Decoder, lines: &[&str]) -> Result<(), PacketFault> {
+pub fn hear(rt: &impl Abort, decoder: &mut dyn Decoder, lines: &[&str]) {
     for line in lines {
-        let packet = Packet::from_line(line)?;
-        decoder.apply(&packet);
+        hear_line(rt, decoder, line);
     }
-    Ok(())
+}
+
+fn hear_line(rt: &impl Abort, decoder: &mut dyn Decoder, line: &str) {
+    let packet = Packet::from_line(line).expect(rt, line);
+    decoder.apply(&packet);
+}
+
+/// Asserts that two decoders, which have heard the packets of `lines`, have equal registers.
+pub fn are_same(rt: &impl Abort, one: &dyn Decoder, other: &dyn Decoder, lines: &[&str]) {
+    assert!(rt; same_registers(one, other), "{lines:?}");
 }
 
 /// Returns a `LocoDecoder` with the given CVs that has heard the packets of `lines`. Asserts that a
 /// `PackedLoco` has equal registers after these packets.
-pub fn heard_by_loco(
-    rt: &impl Abort,
-    cvs: &[u8; 1024],
-    lines: &[&str],
-) -> Result<LocoDecoder, PacketFault> {
+pub fn heard_by_loco(rt: &impl Abort, cvs: &[u8; 1024], lines: &[&str]) -> LocoDecoder {
     let mut plain = LocoDecoder::new(cvs);
-    hear(&mut plain, lines)?;
+    hear(rt, &mut plain, lines);
     let mut packed = PackedLoco::new(cvs);
-    hear(&mut packed, lines)?;
-    assert!(rt; same_registers(&plain, &packed), "{lines:?}");
-    Ok(plain)
+    hear(rt, &mut packed, lines);
+    are_same(rt, &plain, &packed, lines);
+    plain
 }
 
 /// Returns a `BoardDecoder` for board 12 that has heard the packets of `lines`. Asserts that a
 /// `PackedBoard` has equal registers after these packets.
-pub fn heard_by_board(rt: &impl Abort, lines: &[&str]) -> Result<BoardDecoder, PacketFault> {
-    let board = Board::new(12)?;
-    let mut plain = BoardDecoder::new(board)?;
-    hear(&mut plain, lines)?;
-    let mut packed = PackedBoard::new(board)?;
-    hear(&mut packed, lines)?;
-    assert!(rt; same_registers(&plain, &packed), "{lines:?}");
-    Ok(plain)
+pub fn heard_by_board(rt: &impl Abort, lines: &[&str]) -> BoardDecoder {
+    let board = Board::new(12).expect(rt, "a board");
+    let mut plain = BoardDecoder::new(board).expect(rt, "a board");
+    hear(rt, &mut plain, lines);
+    let mut packed = PackedBoard::new(board).expect(rt, "a board");
+    hear(rt, &mut packed, lines);
+    are_same(rt, &plain, &packed, lines);
+    plain
 }
 
 /// Asserts that the register `register` of the decoder has the value `value`.
@@ -83,6 +87,10 @@ pub fn holds(rt: &impl Abort, decoder: &dyn Decoder, register: Register, value: 
 /// Asserts that the decoder has none of the registers in the list.
 pub fn lacks(rt: &impl Abort, decoder: &dyn Decoder, registers: &[Register]) {
     for register in registers {
-        assert!(rt; decoder.get(*register) == None, "{register:?}");
+        has_not(rt, decoder, *register);
     }
+}
+
+fn has_not(rt: &impl Abort, decoder: &dyn Decoder, register: Register) {
+    assert!(rt; decoder.get(register) == None, "{register:?}");
 }

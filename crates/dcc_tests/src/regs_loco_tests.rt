@@ -1,9 +1,10 @@
 //! Tests of locomotive decoders with worked examples, for `LocoDecoder` and `PackedLoco`.
 
+use crate::checks::{check, check_at};
 use crate::regs_examples::*;
 use dcc_packet::{CvNumber, Packet};
 use dcc_regs::{Decoder, LocoDecoder, PackedLoco, Register, Speed, Value, same_registers};
-use std::test::Fail;
+use std::process::Abort;
 
 /// A speed with direction forward and bits 01001: step 3 of 14 with F0 on, or step 6 of 28.
 const STEP: &str = "frame 037477";
@@ -25,34 +26,42 @@ const STEP_28: Value = Value::Speed(Speed::Step28(28));
 
 const EMERGENCY: Value = Value::Speed(Speed::Emergency);
 
+/// The registers of a new locomotive decoder with CV29 = 2, apart from its functions and most CVs.
+const NEW: [(Register, Value); 6] = [
+    (Register::Speed, STOP),
+    (Register::Direction, FORWARD),
+    (Register::Pending, NOTHING),
+    (Register::CvBit(29, 1), ON),
+    (Register::CvBit(1, 1), ON),
+    (Register::CvBit(1, 2), OFF),
+];
+
+/// Registers that no locomotive decoder has.
+const NONE: [Register; 7] = [
+    Register::Function(69),
+    Register::CvBit(0, 0),
+    Register::CvBit(1025, 0),
+    Register::CvBit(1, 8),
+    Register::Out(0),
+    Register::State(0),
+    Register::State(128),
+];
+
 #[test]
-fn new_locomotives(rt: HostRuntime) -> Result<(), Fail> {
-    let decoder = heard_by_loco(&rt, &cvs(2), &[])?;
+fn new_locomotives(rt: HostRuntime) {
+    is_new(&rt, &heard_by_loco(&rt, &cvs(2), &[]));
+    lacks(&rt, &PackedLoco::new(&cvs(2)), &NONE);
+}
+
+/// Asserts that the decoder has the registers of a new locomotive decoder.
+fn is_new(rt: &impl Abort, decoder: &dyn Decoder) {
     for n in 0..69 {
-        holds(&rt, &decoder, Register::Function(n), OFF);
+        holds(rt, decoder, Register::Function(n), OFF);
     }
-    for (register, value) in [
-        (Register::Speed, STOP),
-        (Register::Direction, FORWARD),
-        (Register::Pending, NOTHING),
-        (Register::CvBit(29, 1), ON),
-        (Register::CvBit(1, 1), ON),
-        (Register::CvBit(1, 2), OFF),
-    ] {
-        holds(&rt, &decoder, register, value);
+    for (register, value) in NEW {
+        holds(rt, decoder, register, value);
     }
-    let none = [
-        Register::Function(69),
-        Register::CvBit(0, 0),
-        Register::CvBit(1025, 0),
-        Register::CvBit(1, 8),
-        Register::Out(0),
-        Register::State(0),
-        Register::State(128),
-    ];
-    lacks(&rt, &decoder, &none);
-    lacks(&rt, &PackedLoco::new(&cvs(2)), &none);
-    Ok(())
+    lacks(rt, decoder, &NONE);
 }
 
 /// The value of CV29 of a decoder, packet lines that it hears, a register, and the value that this
@@ -155,16 +164,10 @@ const REGISTERS: [LocoRow; 34] = [
 ];
 
 #[test]
-fn registers(rt: HostRuntime) -> Result<(), Fail> {
+fn registers(rt: HostRuntime) {
     for (cv29, lines, register, value) in REGISTERS {
-        holds(
-            &rt,
-            &heard_by_loco(&rt, &cvs(cv29), lines)?,
-            register,
-            value,
-        );
+        holds(&rt, &heard_by_loco(&rt, &cvs(cv29), lines), register, value);
     }
-    Ok(())
 }
 
 /// Packets that turn F0, F13, F20, F68 and binary state 5 on, for the decoder at short address 3.
@@ -178,21 +181,30 @@ const MANY_ON: [&str; 4] = [
 /// Checks that a reset turns all functions and binary states off. A decoder at short address 3 must
 /// not hear a packet to long address 3.
 #[test]
-fn a_reset_leaves_a_new_locomotive(rt: HostRuntime) -> Result<(), Fail> {
-    // (names the type of the pending packet of a decoder, as the toolchain requires)
-    let _pending: Option<Packet> = None;
+fn a_reset_leaves_a_new_locomotive(rt: HostRuntime) {
     let new = LocoDecoder::new(&cvs(2));
-    let mut decoder = heard_by_loco(&rt, &cvs(2), &MANY_ON)?;
-    assert!(rt; !same_registers(&new, &decoder));
-    hear(&mut decoder, &["frame 030003"])?;
-    assert!(rt; same_registers(&new, &decoder));
-    hear(&mut decoder, &["frame c00362a1"])?;
-    assert!(rt; same_registers(&new, &decoder));
-    assert!(rt; same_registers(&new, &LocoDecoder::new(&cvs(2))));
-    let lit = heard_by_loco(&rt, &cvs(2), &["frame 039093"])?;
-    assert!(rt; !same_registers(&new, &lit));
-    assert!(rt; !same_registers(&new, &heard_by_board(&rt, &[])?));
-    Ok(())
+    let mut decoder = heard_by_loco(&rt, &cvs(2), &MANY_ON);
+    check(&rt, !are_equal(&new, &decoder), "many on");
+    hear(&rt, &mut decoder, &["frame 030003"]);
+    check(&rt, are_equal(&new, &decoder), "a reset");
+    hear(&rt, &mut decoder, &["frame c00362a1"]);
+    check(
+        &rt,
+        are_equal(&new, &decoder),
+        "a packet to another decoder",
+    );
+    check(
+        &rt,
+        are_equal(&new, &LocoDecoder::new(&cvs(2))),
+        "a new decoder",
+    );
+    let lit = heard_by_loco(&rt, &cvs(2), &["frame 039093"]);
+    check(&rt, !are_equal(&new, &lit), "F0 on");
+    check(&rt, !are_equal(&new, &heard_by_board(&rt, &[])), "a board");
+}
+
+fn are_equal(one: &dyn Decoder, other: &dyn Decoder) -> bool {
+    same_registers(one, other)
 }
 
 /// The value of CV29, packet lines that the decoder at short address 3 gets, a truth value, and a
@@ -228,25 +240,22 @@ const STATES: [StateRow; 12] = [
 ];
 
 #[test]
-fn states(rt: HostRuntime) -> Result<(), Fail> {
+fn states(rt: HostRuntime) {
     for (cv29, lines, listed, numbers) in STATES {
-        let mut decoder = heard_by_loco(&rt, &cvs(cv29), lines)?;
-        for n in 1..128 {
-            let value = Value::Flag(numbers.contains(&n) == listed);
-            assert!(rt;
-                decoder.get(Register::State(n)) == Some(value),
-                "{lines:?} {n}"
-            );
-        }
+        let mut decoder = heard_by_loco(&rt, &cvs(cv29), lines);
+        has_states(&rt, &decoder, listed, numbers);
         decoder.power_up();
-        for n in 1..128 {
-            assert!(rt;
-                decoder.get(Register::State(n)) == Some(OFF),
-                "{lines:?} {n}"
-            );
-        }
+        has_states(&rt, &decoder, true, &[]);
     }
-    Ok(())
+}
+
+/// Asserts that exactly the states in the list `numbers` are on, if `listed` is true, otherwise
+/// exactly the states that are not in the list.
+fn has_states(rt: &impl Abort, decoder: &dyn Decoder, listed: bool, numbers: &[u8]) {
+    for n in 1..128 {
+        let on = numbers.contains(&n) == listed;
+        holds(rt, decoder, Register::State(n), Value::Flag(on));
+    }
 }
 
 /// Packet lines that a decoder with CV29 = 2 hears, the number of a CV, and the value that this CV
@@ -272,21 +281,30 @@ const WRITES: [CvRow; 13] = [
 ];
 
 #[test]
-fn writes(rt: HostRuntime) -> Result<(), Fail> {
+fn writes(rt: HostRuntime) {
     for (lines, number, value) in WRITES {
-        let decoder = heard_by_loco(&rt, &cvs(2), lines)?;
-        assert!(rt;
-            decoder.cv(CvNumber::new(number)?) == value && decoder.cv_byte(number) == value,
-            "{lines:?}"
-        );
+        let decoder = heard_by_loco(&rt, &cvs(2), lines);
+        check_at(&rt, has_cv(&rt, &decoder, number, value), u32::from(number));
     }
-    let decoder = heard_by_loco(&rt, &cvs(2), &[WRITE])?;
-    let pending = Value::Pending(Some(Packet::from_line(WRITE)?));
-    holds(&rt, &decoder, Register::Pending, pending);
-    let mut packed = PackedLoco::new(&cvs(2));
-    hear(&mut packed, &[WRITE, WRITE])?;
-    assert!(rt;
-        packed.cv(CvNumber::new(29)?) == 6 && packed.cv_byte(29) == 6 && packed.cv_byte(1025) == 0
+    let pending = Packet::from_line(WRITE).expect(&rt, WRITE);
+    holds(
+        &rt,
+        &heard_by_loco(&rt, &cvs(2), &[WRITE]),
+        Register::Pending,
+        Value::Pending(Some(pending)),
     );
-    Ok(())
+}
+
+fn has_cv(rt: &impl Abort, decoder: &LocoDecoder, number: u16, value: u8) -> bool {
+    let cv = CvNumber::new(number).expect(rt, "a CV");
+    decoder.cv(cv) == value && decoder.cv_byte(number) == value
+}
+
+#[test]
+fn packed_writes(rt: HostRuntime) {
+    let mut packed = PackedLoco::new(&cvs(2));
+    hear(&rt, &mut packed, &[WRITE, WRITE]);
+    let cv = CvNumber::new(29).expect(&rt, "a CV");
+    check(&rt, packed.cv(cv) == 6 && packed.cv_byte(29) == 6, "CV29");
+    check(&rt, packed.cv_byte(1025) == 0, "no CV");
 }

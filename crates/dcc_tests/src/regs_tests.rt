@@ -1,11 +1,12 @@
 //! Tests of the definitions with worked examples: which decoders hear a packet, which callback is
 //! called for a packet, and which packets conflict.
 
+use crate::checks::check;
 use crate::rows::column;
 use dcc_packet::Packet;
 use dcc_regs::*;
 use dcc_saved::read_who;
-use std::test::Fail;
+use std::process::Abort;
 
 /// The columns of a row are a packet, and the names of the decoders that hear this packet, out of
 /// five decoders.
@@ -24,15 +25,23 @@ const HEARD_BY: &str = "\
     signal 2046 1 |";
 
 #[test]
-fn heard_by(rt: HostRuntime) -> Result<(), Fail> {
+fn heard_by(rt: HostRuntime) {
     for row in HEARD_BY.lines() {
-        let packet = Packet::from_line(column(row, 0))?;
+        let packet = packet_of(&rt, column(row, 0));
         for name in ["s3", "s124", "l1000", "none", "b12"] {
             let heard = column(row, 1).find(name).is_some();
-            assert!(rt; hears(read_who(name)?, &packet) == heard, "{row}");
+            check(&rt, is_heard(&rt, name, &packet) == heard, row);
         }
     }
-    Ok(())
+}
+
+fn packet_of(rt: &impl Abort, line: &str) -> Packet {
+    Packet::from_line(line).expect(rt, line)
+}
+
+/// Returns true if the decoder with this name hears the packet.
+fn is_heard(rt: &impl Abort, name: &str, packet: &Packet) -> bool {
+    hears(read_who(name).expect(rt, name), packet)
 }
 
 const LINES: &str = "\
@@ -54,18 +63,21 @@ const LINES: &str = "\
     frame 7c000a76";
 
 #[test]
-fn notes(rt: HostRuntime) -> Result<(), Fail> {
+fn notes(rt: HostRuntime) {
     let mut note = LastNote::new();
-    assert!(rt; note.last().is_none());
+    check(&rt, note.last().is_none(), "a new note");
     for line in LINES.lines() {
-        let packet = Packet::from_line(line)?;
-        announce(&packet, &mut note);
-        match note.last() {
-            Some(told) => assert!(rt; told.is(&packet), "{line}"),
-            None => assert!(rt; false),
-        }
+        check(&rt, is_noted(&mut note, &packet_of(&rt, line)), line);
     }
-    Ok(())
+}
+
+/// Announces a packet to the listener. Returns true if the listener noted this packet.
+fn is_noted(note: &mut LastNote, packet: &Packet) -> bool {
+    announce(packet, note);
+    match note.last() {
+        Some(told) => told.is(packet),
+        None => false,
+    }
 }
 
 /// The first column of a row is `yes` if two packets conflict, otherwise `no`. The other columns
@@ -116,13 +128,16 @@ const CONFLICTS: &str = "\
     no | loco all state 5 on | accessory 12 5 on";
 
 #[test]
-fn conflicts(rt: HostRuntime) -> Result<(), Fail> {
+fn conflicts(rt: HostRuntime) {
     for row in CONFLICTS.lines() {
-        let one = Packet::from_line(column(row, 1))?;
-        let other = Packet::from_line(column(row, 2))?;
+        let one = packet_of(&rt, column(row, 1));
+        let other = packet_of(&rt, column(row, 2));
         let wanted = column(row, 0) == "yes";
-        assert!(rt; conflict(&one, &other) == wanted, "{row}");
-        assert!(rt; conflict(&other, &one) == wanted, "{row}");
+        check(&rt, is_conflict(&one, &other) == wanted, row);
+        check(&rt, is_conflict(&other, &one) == wanted, row);
     }
-    Ok(())
+}
+
+fn is_conflict(one: &Packet, other: &Packet) -> bool {
+    conflict(one, other)
 }

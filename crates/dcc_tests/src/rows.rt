@@ -1,11 +1,12 @@
 //! Functions that read tables of worked examples. Each line of a table is a row, and bars separate
 //! the columns.
 //!
-//! `dcc_tool_tests` has copies of `column` and `number`. Tests export no items to another crate,
-//! and a crate for both would be one more crate to prove.
+//! The other crates of tests have copies of these functions. Tests export no items to another
+//! crate, and a crate for all of them would be one more crate to prove.
 
 use dcc_wire::{Frame, Halves, Timing};
-use std::alloc::AllocError;
+use std::alloc::{AllocError, Global};
+use std::process::Abort;
 
 /// Returns the column with the number `number`, counted from 0, without spaces around it. The
 /// result is empty if the row has fewer columns.
@@ -33,17 +34,6 @@ pub fn number(word: &str) -> u32 {
     }
 }
 
-/// Returns true if `hex` is the text of `bytes`, at most six, in hex digits of lower case.
-pub fn is_hex(bytes: &[u8], hex: &str) -> bool {
-    let mut digits = [0; 12];
-    match digits.get_mut(..bytes.len().saturating_mul(2)) {
-        None => false,
-        Some(digits) => {
-            hex::encode_to_slice(bytes, digits).is_ok() && &*digits == hex.as_bytes()
-        }
-    }
-}
-
 /// Returns the frame whose bytes `hex` has as hex digits. Returns `None` if these bytes form no
 /// frame.
 pub fn frame_of(hex: &str) -> Option<Frame> {
@@ -55,23 +45,33 @@ pub fn frame_of(hex: &str) -> Option<Frame> {
     }
 }
 
-/// Appends the half-bits of a text. A word of the text is a duration in microseconds, a run such as
+/// Returns the half-bits of a text. A word of the text is a duration in microseconds, a run such as
 /// `58*28`, or a packet such as `=036261`. Packets have the timing of the main track.
-pub fn push_halves(halves: &mut Vec<u16>, text: &str) -> Result<(), AllocError> {
+pub fn halves_of(rt: &impl Abort, alloc: Global, text: &str) -> Vec<u16> {
+    let mut halves = Vec::new(alloc);
     for word in text.split_whitespace() {
-        match word.strip_prefix('=') {
-            Some(hex) => push_packet(halves, hex)?,
-            None => push_run(halves, word)?,
-        }
+        push_word(&mut halves, word).expect(rt, "memory");
     }
-    Ok(())
+    halves
+}
+
+fn push_word(halves: &mut Vec<u16>, word: &str) -> Result<(), AllocError> {
+    match word.strip_prefix('=') {
+        Some(hex) => push_packet(halves, hex),
+        None => push_run(halves, word),
+    }
 }
 
 fn push_packet(halves: &mut Vec<u16>, hex: &str) -> Result<(), AllocError> {
-    if let Some(frame) = frame_of(hex) {
-        for us in Halves::new(frame, Timing::main()) {
-            halves.push(us)?;
-        }
+    match frame_of(hex) {
+        Some(frame) => push_frame(halves, frame, Timing::main()),
+        None => Ok(()),
+    }
+}
+
+fn push_frame(halves: &mut Vec<u16>, frame: Frame, timing: Timing) -> Result<(), AllocError> {
+    for us in Halves::new(frame, timing) {
+        halves.push(us)?;
     }
     Ok(())
 }
@@ -81,8 +81,11 @@ fn push_run(halves: &mut Vec<u16>, word: &str) -> Result<(), AllocError> {
         None => (word, "1"),
         Some(run) => run,
     };
-    let us = us.parse::<u16>().unwrap_or(0);
-    for _ in 0..number(count) {
+    push_times(halves, us.parse::<u16>().unwrap_or(0), number(count))
+}
+
+fn push_times(halves: &mut Vec<u16>, us: u16, count: u32) -> Result<(), AllocError> {
+    for _ in 0..count {
         halves.push(us)?;
     }
     Ok(())

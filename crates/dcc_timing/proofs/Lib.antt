@@ -1,7 +1,10 @@
 pub mod TallyLemmas
+pub mod CoveredLemmas
+pub mod CoveredBits
 pub mod ClassLemmas
 pub mod GapLemmas
 pub mod RecentLemmas
 pub mod BitLemmas
+pub mod OneLemmas
 pub mod MeasureLemmas
 pub mod WorkedExamples

@@ -6,7 +6,8 @@ use lib.Seq.{paste}
 use Rattle.std.proofs.Common.{◌<◌, slice_set}
 use Rattle.std.proofs.lemmas.List.{drop-take, take_more_set}
 use Rattle.std.proofs.lemmas.List.Edits.{take-paste}
-use Rattle.std.proofs.lemmas.List.{drop-append-le, drop-drop, drop-replicate, drop_at, length-replicate, replicate_more}
+use Rattle.std.proofs.lemmas.List.{drop-append-le, drop-drop, drop-replicate, drop_at, length-replicate}
+use Rattle.std.proofs.lemmas.List.{replicate-append-replicate}
 use Rattle.std.proofs.lemmas.Bool.{cases_lt}
 use Rattle.std.proofs.lemmas.Slice.{take-put_mid}
 use Rattle.std.proofs.Math.Seq.{take-add}
@@ -27,14 +28,14 @@ keep_last_behind k xs ys =
     ∙ drop-drop (length (drop d xs ++ ys) - k) d (xs ++ ys)
     ∙ ap (λ n. drop n (xs ++ ys)) place
 
--- one half more of a run
-pub recent_more : (halves before after : List ℕ) (us k m : ℕ) → before ≡ keep_last 130 (halves ++ replicate k us)
-    → after ≡ keep_last 130 (before ++ us ∷ []) → k + 1 ≡ m → after ≡ keep_last 130 (halves ++ replicate m us)
-recent_more halves before after us k m so takes one =
-    takes ∙ ap (λ l. keep_last 130 (l ++ us ∷ [])) so
-    ∙ keep_last_behind 130 (halves ++ replicate k us) (us ∷ [])
-    ∙ ap (λ l. keep_last 130 l) (append_assoc halves (replicate k us) (us ∷ [])
-    ∙ ap (λ l. halves ++ l) (replicate_more k us ∙ ap (λ n. replicate n us) one))
+-- more half-bits of a run
+pub recent_more : (halves before after : List ℕ) (us k more : ℕ) → before ≡ keep_last 130 (halves ++ replicate k us)
+    → after ≡ keep_last 130 (before ++ replicate more us) → after ≡ keep_last 130 (halves ++ replicate (k + more) us)
+recent_more halves before after us k more so takes =
+    takes ∙ ap (λ l. keep_last 130 (l ++ replicate more us)) so
+    ∙ keep_last_behind 130 (halves ++ replicate k us) (replicate more us)
+    ∙ ap (λ l. keep_last 130 l) (append_assoc halves (replicate k us) (replicate more us)
+    ∙ ap (λ l. halves ++ l) (replicate-append-replicate k more us))
 
 -- the last 130 numbers of a list with one number more
 pub half_behind : (halves : List ℕ) (us : ℕ) (last next : List ℕ) → last ≡ keep_last 130 halves
@@ -133,3 +134,13 @@ appended_some list numbers before after at count end is so takes =
     ∙ keep_last_behind 130 (list ++ take at numbers) (take count (drop at numbers))
     ∙ ap (keep_last 130) (append_assoc list (take at numbers) (take count (drop at numbers))
     ∙ ap (λ l. list ++ l) (sym (take-add at count numbers)))
+
+-- copies of a number at the first free places of an array
+pub added_copies : (numbers mid part : List ℕ) (len at k end count number : ℕ) → at ≡ len → end ≡ at + count
+    → len + count ≤ length numbers → length part ≡ count → mid ≡ replicate (length part) number
+    → keep_last 130 (take end (put_mid at k numbers mid))
+    ≡ keep_last 130 (keep_last 130 (take len numbers) ++ replicate count number)
+added_copies numbers mid part len at k end count number is ends within long fills =
+    let many : length (replicate count number) ≡ count = length-replicate count number in
+    added_all numbers (put_mid at k numbers mid) (replicate count number) mid len at k end is
+    (rw many ends) (rw many within) (fills ∙ ap (λ n. replicate n number) long) refl

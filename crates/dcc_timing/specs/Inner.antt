@@ -1,3 +1,4 @@
 -- Definitions that only contracts of private functions use.
 pub mod Counts
 pub mod Steps
+pub mod Ranges

@@ -2,6 +2,7 @@ pub mod Numbers
 pub mod Recent
 pub mod Tallies
 pub mod Classes
+pub mod Ones
 pub mod Outcomes
 pub mod PacketBits
 pub mod Gaps

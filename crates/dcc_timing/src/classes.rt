@@ -1,5 +1,6 @@
 //! The statistics of the half-bits of a list, for each class of half-bits.
 
+use crate::covered::sums_in;
 use crate::tally::Tally;
 
 /// The statistics of the durations of half-bits, for each class in which a decoder puts them (NMRA
@@ -23,7 +24,7 @@ pub struct Classes {
 }
 
 impl Classes {
-    ghost use Rattle.std.specs.Prelude.{◌≡◌, ◌<◌, ◌+◌, ◌^◌, ℕ, List, [], ◌++◌, replicate};
+    ghost use Rattle.std.specs.Prelude.{◌≡◌, ◌<◌, ◌+◌, ◌^◌, ℕ, List, [], ◌++◌, length, replicate, IsTrue, false};
     ghost use Rattle.dcc_timing.specs.Classes.{AreClasses};
     ghost use Rattle.dcc_timing.specs.Inner.Counts.{classes_count};
 
@@ -69,5 +70,47 @@ impl Classes {
         if n > 0 {
             self.add(us, n);
         }
+    }
+    /// Adds the half-bits `halves`.
+    pub(crate) fn add_all(&mut self, halves: &[u16])
+        requires { classes_count self.old + length halves.now < 2 ^ 40 }
+        ensures classes { (durations : List ℕ) → AreClasses self.old durations
+            → AreClasses self.new (durations ++ halves.now) }
+        ensures count { classes_count self.new ≡ classes_count self.old + length halves.now }
+    {
+        if self.add_covered(halves) {
+            return;
+        }
+        for (i, us) in halves.iter().enumerate() {
+            self.add(*us, 1);
+        }
+    }
+
+    /// Adds the half-bits `halves` if each of them is in the range of the ones or in the range of the
+    /// zeros so far, and returns true. Otherwise returns false, and nothing changes. Then only counts
+    /// and sums change, which a loop without branches computes.
+    fn add_covered(&mut self, halves: &[u16]) -> bool
+        requires { classes_count self.old + length halves.now < 2 ^ 40 }
+        ensures classes { IsTrue result → (durations : List ℕ) → AreClasses self.old durations
+            → AreClasses self.new (durations ++ halves.now) }
+        ensures count { IsTrue result → classes_count self.new ≡ classes_count self.old + length halves.now }
+        ensures left { result ≡ false → self.new ≡ self.old }
+    {
+        if halves.len() > 1000 {
+            return false;
+        }
+        let Some(ones) = self.ones.span() else {
+            return false;
+        };
+        let Some(zeros) = self.zeros.span() else {
+            return false;
+        };
+        let part = sums_in(halves, ones, zeros);
+        if (part.ones + part.zeros) as usize != halves.len() {
+            return false;
+        }
+        self.ones.add_covered(part.ones, part.ones_sum);
+        self.zeros.add_covered(part.zeros, part.sum - part.ones_sum);
+        true
     }
 }

@@ -8,6 +8,7 @@
 
 mod bits;
 mod classes;
+mod covered;
 mod gaps;
 mod outcomes;
 mod packets;

@@ -38,9 +38,10 @@ impl Packets {
     }
 
     /// Adds an outcome that ends at the time `end`, in microseconds. The list `recent` ends with
-    /// the last half-bit of this outcome.
+    /// the last half-bit of this outcome. If `at_once` is true, the bits of a packet are added by
+    /// [`Bits::add_at_once`].
     #[inline(always)]
-    pub(crate) fn add(&mut self, seen: &Seen, end: u64, recent: &LastNumbers)
+    pub(crate) fn add(&mut self, seen: &Seen, end: u64, recent: &LastNumbers, at_once: bool)
         requires { bits_count self.old.bits + 130 < 2 ^ 40 }
         ensures bits { (bits : List (ℕ × ℕ)) → AreBits self.old.bits bits
             → AreBits self.new.bits (bits ++ bits_among (bits_shown seen.now) (recent_numbers recent.now)) }
@@ -52,7 +53,11 @@ impl Packets {
         match bits_of(seen) {
             Some(halves) => {
                 self.gaps.add(end);
-                self.bits.add(recent.last(halves));
+                if at_once {
+                    self.bits.add_at_once(recent.last(halves));
+                } else {
+                    self.bits.add(recent.last(halves));
+                }
             }
             None => (),
         }

@@ -110,11 +110,26 @@ impl LastNumbers {
         ensures { (numbers : List ℕ) → recent_numbers self.old ≡ keep_last 130 numbers
             → recent_numbers self.new ≡ keep_last 130 (numbers ++ replicate n number) }
     {
-        let mut left = n.min(130);
-        'numbers: while left > 0 {
-            self.push(number);
-            left -= 1;
+        let count = n.min(130) as usize;
+        let mut taken = 0;
+        'numbers: while taken < count {
+            self.make_room();
+            let more = (count - taken).min(192 - usize::from(self.len));
+            self.add_copies(number, more);
+            taken += more;
         }
+    }
+
+    /// Appends a number to the list `count` times. The array must have room for the numbers.
+    #[inline(always)]
+    fn add_copies(&mut self, number: u16, count: usize)
+        requires { self.old.len + count ≤ 192 }
+        ensures { recent_numbers self.new ≡ keep_last 130 (recent_numbers self.old ++ replicate count number) }
+    {
+        let len = usize::from(self.len);
+        let end = len + count;
+        self.numbers[len..end].fill(number);
+        self.len = end as u16;
     }
 
     /// Returns the last `n` numbers of the list, or all numbers if the list has fewer.

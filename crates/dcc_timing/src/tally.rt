@@ -2,6 +2,8 @@
 
 ghost use Rattle.std.specs.Prelude.{◌<◌, ◌≤◌, ◌*◌, ◌^◌};
 
+use crate::covered::Span;
+
 /// The count, the sum, the least number and the greatest number of a list of numbers. If the list is
 /// empty, all fields are 0.
 #[repr(C)]
@@ -26,9 +28,10 @@ pub struct Mean {
 
 impl Tally {
     ghost use Rattle.std.specs.Prelude.{◌≡◌, ◌≢◌, ◌<◌, ◌≤◌, ◌+◌, ◌*◌, ◌^◌, ℕ, List, [], ◌++◌, length, replicate, min};
-    ghost use Rattle.std.specs.Prelude.{max, IfSome};
+    ghost use Rattle.std.specs.Prelude.{max, sum, IfSome};
     ghost use Rattle.dcc_timing.specs.Numbers.{least, most};
     ghost use Rattle.dcc_timing.specs.Tallies.{IsTally, mean};
+    ghost use Rattle.dcc_timing.specs.Inner.Ranges.{AllBetween};
 
     /// Creates the statistics of the empty list.
     pub(crate) fn new() -> Tally
@@ -56,6 +59,38 @@ impl Tally {
         self.cover(number);
         self.count += u64::from(n);
         self.sum += u64::from(n) * number;
+    }
+
+    /// Appends numbers that are in the range from the least to the greatest number of the list. There
+    /// are `count` such numbers with the sum `total`. The list must not be empty.
+    #[inline(always)]
+    pub(crate) fn add_covered(&mut self, count: u32, total: u32)
+        requires some { 0 < self.old.count }
+        requires room { self.old.count + count < 2 ^ 40 }
+        requires small { total ≤ 131072 * count }
+        ensures tally { (numbers more : List ℕ) → IsTally self.old numbers
+            → AllBetween self.old.least self.old.most more → count ≡ length more → total ≡ sum more
+            → IsTally self.new (numbers ++ more) }
+        ensures count { self.new.count ≡ self.old.count + count }
+    {
+        self.count += u64::from(count);
+        self.sum += u64::from(total);
+    }
+
+    /// Returns the range from the least to the greatest number of the list, with limits of at most
+    /// 65535. Returns `None` if the list is empty.
+    #[inline(always)]
+    pub(crate) fn span(&self) -> Option<Span>
+        ensures { IfSome result (λ span. (0 < self.now.count) × (span.least ≡ min self.now.least 65535)
+            × (span.most ≡ min self.now.most 65535)) }
+    {
+        if self.count == 0 {
+            return None;
+        }
+        Some(Span {
+            least: self.least.min(65535) as u16,
+            most: self.most.min(65535) as u16,
+        })
     }
 
     /// Extends the range from the least to the greatest number by `number`. Most numbers are in the

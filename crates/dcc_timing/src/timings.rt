@@ -7,7 +7,7 @@ ghost use Rattle.dcc_timing.specs.Inner.Counts.{classes_count, outcomes_count, b
 ghost use Rattle.dcc_timing.specs.Measured.{AreMeasured};
 ghost use Rattle.dcc_timing.specs.Recent.{recent_numbers};
 
-use crate::bits::Bits;
+use crate::bits::{Bits, is_half_of_one};
 use crate::classes::Classes;
 use crate::outcomes::Outcomes;
 use crate::packets::Packets;
@@ -41,7 +41,7 @@ pub struct Timings {
 
 impl Timings {
     ghost use Rattle.std.specs.Prelude.{◌≡◌, ◌<◌, ◌+◌, ◌^◌, ℕ, List, [], ◌++◌, length, replicate, sum};
-    ghost use Rattle.std.specs.Prelude.{◌∷◌, ◌≢◌, ◌≤◌, ◌↔◌, IsTrue, false, take};
+    ghost use Rattle.std.specs.Prelude.{◌∷◌, ◌≢◌, ◌≤◌, ◌↔◌, IsTrue, true, false, take};
     ghost use Rattle.dcc_wire.specs.Passes.{PassesBody};
     ghost use Rattle.dcc_wire.specs.Framing.{Hunting, StandsFor, is_hunting, report_at, rest, seen};
     ghost use Rattle.dcc_wire.specs.Half.{class_of};
@@ -52,6 +52,7 @@ impl Timings {
     ghost use Rattle.dcc_timing.specs.PacketBits.{AreBits, packet_bits_in};
     ghost use Rattle.dcc_timing.specs.Gaps.{longest_gap};
     ghost use Rattle.dcc_timing.specs.Measures.{Measures};
+    ghost use Rattle.dcc_timing.specs.Ones.{AllOnes};
 
     /// Creates the statistics of the empty list of half-bits.
     pub fn new() -> Timings
@@ -86,7 +87,7 @@ impl Timings {
         if self.pass(us) {
             return Seen::Nothing;
         }
-        self.push_shown(us)
+        self.push_shown(us, false)
     }
 
     /// Appends a half-bit of `us` microseconds to the list if this half-bit has no outcome, and
@@ -154,11 +155,46 @@ impl Timings {
         count
     }
 
+    /// Appends half-bits of the class One at the beginning of `halves`, while no body is unfinished.
+    /// Returns the number of these half-bits. Returns 0 and changes nothing if a body is unfinished.
+    /// The longer list must have fewer than 2^32 half-bits.
+    pub fn pass_ones(&mut self, halves: &[u16]) -> usize
+        requires { self.old.halves + length halves.now < 2 ^ 32 }
+        // Some list has the old statistics.
+        ensures history { ∥ ((list : List ℕ) × Measures self.old list) ∥₁ }
+        // If a list has the old statistics, the list with these half-bits at its end has the new
+        // statistics.
+        ensures measures { (list : List ℕ) → Measures self.old list
+            → Measures self.new (list ++ take result halves.now) }
+        ensures ones { AllOnes (take result halves.now) }
+        ensures hunts { result ≢ 0 → is_hunting (kept_rest self.old.framer) ≡ true }
+        ensures left { result ≡ 0 → self.new ≡ self.old }
+        ensures count { self.new.halves ≡ self.old.halves + result }
+        ensures within { result ≤ length halves.now }
+    {
+        if !self.framer.is_hunting() {
+            return 0;
+        }
+        let ones = pass_ones(&mut self.framer, halves);
+        if ones == 0 {
+            return 0;
+        }
+        count_halves(
+            &mut self.halves,
+            &mut self.time,
+            &mut self.classes,
+            &mut self.recent,
+            &halves[..ones],
+        );
+        ones
+    }
+
     /// Appends a half-bit of `us` microseconds that has an outcome: a half-bit for which
     /// [`pass`](Self::pass) returned false. Returns this outcome. The longer list must have fewer than
-    /// 2^32 half-bits.
+    /// 2^32 half-bits. The parameter `at_once` changes only the speed: true is faster on a processor
+    /// with vectors, and false is faster on a microcontroller.
     #[inline(always)]
-    pub fn push_shown(&mut self, us: u16) -> Seen
+    pub fn push_shown(&mut self, us: u16, at_once: bool) -> Seen
         requires room { self.old.halves + 1 < 2 ^ 32 }
         requires shows { (halves : List ℕ) → StandsFor (kept_rest self.old.framer) halves
             → seen (halves ++ us ∷ []) ≢ seen halves }
@@ -182,7 +218,7 @@ impl Timings {
             us,
         );
         self.outcomes.add(&seen);
-        self.packets.add(&seen, self.time, &self.recent);
+        self.packets.add(&seen, self.time, &self.recent, at_once);
         seen
     }
 
@@ -370,10 +406,48 @@ fn count_halves(
 {
     recent.append(list);
     *halves += list.len() as u32;
-    for (i, us) in list.iter().enumerate() {
-        *time += u64::from(*us);
-        classes.add(*us, 1);
+    *time += sum_of(list);
+    classes.add_all(list);
+}
+
+/// Returns the sum of the half-bits `halves`.
+#[inline(always)]
+fn sum_of(halves: &[u16]) -> u64
+    requires { length halves.now < 2 ^ 32 }
+    ensures sum { result ≡ sum halves.now }
+    ensures short { result ≤ 65535 * length halves.now }
+{
+    let mut sum = 0;
+    for (i, us) in halves.iter().enumerate() {
+        sum += u64::from(*us);
     }
+    sum
+}
+
+ghost use Rattle.std.specs.Prelude.{take};
+ghost use Rattle.dcc_timing.specs.Ones.{AllOnes};
+
+/// Takes the half-bits of the class One at the beginning of `halves`, as calls of `KeptFramer::pass`
+/// do. Returns their number.
+#[inline(always)]
+fn pass_ones(framer: &mut KeptFramer, halves: &[u16]) -> usize
+    ensures stands { (durations : List ℕ) → StandsFor (kept_rest framer.old) durations
+        → StandsFor (kept_rest framer.new) (durations ++ take result halves.now) }
+    ensures sees { (durations : List ℕ) → StandsFor (kept_rest framer.old) durations
+        → seen (durations ++ take result halves.now) ≡ seen durations }
+    ensures ones { AllOnes (take result halves.now) }
+    ensures left { result ≡ 0 → framer.new ≡ framer.old }
+    ensures within { result ≤ length halves.now }
+{
+    let mut at = 0;
+    'ones: while at < halves.len() {
+        let us = halves[at];
+        if !is_half_of_one(us) || !framer.pass(us) {
+            return at;
+        }
+        at += 1;
+    }
+    at
 }
 
 /// Takes a half-bit of `us` microseconds, with the contract of `KeptFramer::push`. Only few

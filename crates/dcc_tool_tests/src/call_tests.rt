@@ -27,13 +27,13 @@
 //! return the error of the first call. The second call must write nothing. After a failed write
 //! there is no second call.
 
-use crate::calls::{call_of, pair, text_of, told};
+use crate::calls::{Call, call_of, pair, text_of, told};
+use crate::checks::check;
 use crate::fakes::{Giving, Taking};
 use crate::rows::{column, number};
 use dcc_tool::{Input, Limits};
 use std::alloc::Global;
 use std::process::Abort;
-use std::test::Fail;
 
 const SHOWN: &str = "\
     a gap | show | 58*28_100*14_58*4_100*4_58*4_100*6_58*2_100*6_58*4_100*8_58*4_ |  |  |  | 84 036261/
@@ -184,49 +184,70 @@ const PLAYED: &str = "\
     two writes | run | D | 512 |  | 2 2 | dcc- | U5 write failed";
 
 /// Performs the operation of a row and checks the results. Each read gives at most `each` bytes.
-fn play(rt: &impl Abort, alloc: Global, row: &str, each: u32) -> Result<(), Fail> {
-    let text = text_of(alloc, column(row, 2))?;
-    let written = text_of(alloc, column(row, 6))?;
+fn play(rt: &impl Abort, alloc: Global, row: &str, each: u32) {
+    let text = text_of(rt, alloc, column(row, 2));
     let reads = column(row, 3);
-    let (halves, bytes) = pair(column(row, 4), (16_777_216, 67_108_864));
-    let (takes, writes) = pair(column(row, 5), (100_000, 100_000));
     let reader = Giving::new(
         text.as_slice(),
         each as usize,
         pair(reads, (each, 1_000_000)).1,
         reads.ends_with("again"),
     );
-    let call = call_of(column(row, 1));
+    let (halves, bytes) = pair(column(row, 4), (16_777_216, 67_108_864));
     let mut input = Input::new(reader, Limits { halves, bytes });
-    let mut writer = Taking::new(alloc, takes as usize, writes);
-    let fault = told(alloc, &call.play(alloc, &mut input, &mut writer)?)?;
-    assert!(rt; fault.as_str() == column(row, 7), "{row}");
-    assert!(rt; writer.taken.as_slice() == written.as_slice(), "{row}");
+    let call = call_of(column(row, 1));
+    play_first(rt, alloc, row, call, &mut input);
     let lines = column(row, 8);
-    assert!(rt; lines.is_empty() || input.lines() == number(lines), "{row}");
+    check(
+        rt,
+        lines.is_empty() || lines_of(&input) == number(lines),
+        row,
+    );
+    play_again(rt, alloc, row, call, &mut input);
+}
+
+fn lines_of(input: &Input<Giving>) -> u32 {
+    input.lines()
+}
+
+/// Performs the operation of a row for the first time, and checks the error and the written text.
+fn play_first(rt: &impl Abort, alloc: Global, row: &str, call: Call, input: &mut Input<Giving>) {
+    let (takes, writes) = pair(column(row, 5), (100_000, 100_000));
+    let mut writer = Taking::new(alloc, takes as usize, writes);
+    let fault = told(rt, alloc, &call.play(rt, alloc, input, &mut writer));
+    check(rt, fault.as_str() == column(row, 7), row);
+    let written = text_of(rt, alloc, column(row, 6));
+    check(rt, writer.taken.as_slice() == written.as_slice(), row);
+}
+
+/// Performs the operation of a row for the second time, and checks the error.
+fn play_again(rt: &impl Abort, alloc: Global, row: &str, call: Call, input: &mut Input<Giving>) {
     let then = match column(row, 9) {
         "" => column(row, 7),
         then => then,
     };
     if !then.is_empty() && !then.starts_with("U5") {
         let mut writer = Taking::new(alloc, 1000, 1000);
-        let fault = told(alloc, &call.play(alloc, &mut input, &mut writer)?)?;
-        assert!(rt; fault.as_str() == then && writer.taken.is_empty(), "{row}");
+        let fault = told(rt, alloc, &call.play(rt, alloc, input, &mut writer));
+        check(rt, fault.as_str() == then && writer.taken.is_empty(), row);
     }
-    Ok(())
 }
 
 #[test]
-fn calls(rt: HostRuntime) -> Result<(), Fail> {
+fn calls(rt: HostRuntime) {
     for table in [SHOWN, SHOWN_PLAIN, TIMED, ENCODED, COMPARED, PLAYED] {
         for row in table.lines() {
-            if column(row, 3).is_empty() {
-                play(&rt, rt.alloc(), row, 1)?;
-                play(&rt, rt.alloc(), row, 512)?;
-            } else {
-                play(&rt, rt.alloc(), row, pair(column(row, 3), (512, 0)).0)?;
-            }
+            play_row(&rt, rt.alloc(), row);
         }
     }
-    Ok(())
+}
+
+/// Performs the operation of a row with the reads that the row names.
+fn play_row(rt: &impl Abort, alloc: Global, row: &str) {
+    if column(row, 3).is_empty() {
+        play(rt, alloc, row, 1);
+        play(rt, alloc, row, 512);
+    } else {
+        play(rt, alloc, row, pair(column(row, 3), (512, 0)).0);
+    }
 }

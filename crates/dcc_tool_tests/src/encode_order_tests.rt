@@ -1,11 +1,11 @@
 //! Tests of the order in which `encode` reads and writes, with and without a station. No contract
 //! states the order of reads and writes.
 
+use crate::checks::check;
 use crate::fakes::{Counting, Track, WatchingLines};
 use dcc_tool::{Encode, Input, Limits, encode};
-use std::alloc::{AllocError, Global};
+use std::alloc::Global;
 use std::process::Abort;
-use std::test::Fail;
 
 /// Two encodings, each with an input line: a packet line of 5 bytes, and a line of 7 bytes that
 /// requests a packet from a station. The output for each line is a line of 7 bytes.
@@ -28,12 +28,12 @@ const LINES: [(Encode, &[u8]); 2] = [
     ),
 ];
 
-fn repeated(alloc: Global, line: &[u8], count: u32) -> Result<Vec<u8>, AllocError> {
+fn repeated(rt: &impl Abort, alloc: Global, line: &[u8], count: u32) -> Vec<u8> {
     let mut lines = Vec::new(alloc);
     for _ in 0..count {
-        lines.extend_from_slice(line)?;
+        lines.extend_from_slice(line).expect(rt, "memory");
     }
-    Ok(lines)
+    lines
 }
 
 /// Encodes the lines `lines`. The reader sets `late` if a line was not written in time. Each read
@@ -56,40 +56,40 @@ fn watch(
     };
     let mut input = Input::new(reader, Limits::full());
     let mut writer = Counting { track };
-    assert!(rt; encode(alloc, &mut input, &mut writer, how) == Ok(()));
+    let answer = encode(alloc, &mut input, &mut writer, how);
+    check(rt, answer == Ok(()), "an error");
 }
 
 #[test]
-fn each_line_is_out_before_the_next_read(rt: HostRuntime) -> Result<(), Fail> {
+fn each_line_is_out_before_the_next_read(rt: HostRuntime) {
     for (how, line) in LINES {
-        let lines = repeated(rt.alloc(), line, 120)?;
+        let lines = repeated(&rt, rt.alloc(), line, 120);
         for each in [1, 4, 5, 6, 7, 11, 35, 512] {
             let track = Track::new();
             let text = lines.as_slice();
             watch(&rt, rt.alloc(), &track, how, text, line.len(), each);
-            assert!(rt;
+            check(
+                &rt,
                 !track.late.get(),
-                "a line was held while the reader was asked for more"
+                "a line was held while the reader was asked for more",
             );
-            assert!(rt; track.written.get() == 7 * 120);
+            check(&rt, track.written.get() == 7 * 120, "120 lines");
         }
     }
-    Ok(())
 }
 
 #[test]
-fn lines_of_one_read_go_out_together(rt: HostRuntime) -> Result<(), Fail> {
+fn lines_of_one_read_go_out_together(rt: HostRuntime) {
     for (how, line) in LINES {
-        let lines = repeated(rt.alloc(), line, 700)?;
+        let lines = repeated(&rt, rt.alloc(), line, 700);
         let track = Track::new();
         let text = lines.as_slice();
         watch(&rt, rt.alloc(), &track, how, text, line.len(), 512);
-        assert!(rt; track.written.get() == 7 * 700);
-        assert!(rt;
+        check(&rt, track.written.get() == 7 * 700, "700 lines");
+        check(
+            &rt,
             track.writes.get() <= track.reads.get(),
-            "no more calls than reads of 512 bytes: {}",
-            track.writes.get()
+            "no more calls than reads of 512 bytes",
         );
     }
-    Ok(())
 }

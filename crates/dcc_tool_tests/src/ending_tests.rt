@@ -1,9 +1,9 @@
 //! Tests of the exit status, the number and the text of each error.
 
 use crate::calls::told;
+use crate::checks::check;
 use dcc_packet::PacketFault;
 use dcc_tool::{Ending, ToolFault, Usage, exit_status};
-use std::test::Fail;
 
 /// Errors, with the number, the exit status and the text of each error.
 const FAULTS: [(ToolFault, u8, u8, &str); 9] = [
@@ -27,14 +27,16 @@ const FAULTS: [(ToolFault, u8, u8, &str); 9] = [
 ];
 
 #[test]
-fn faults_have_their_texts_and_numbers(rt: HostRuntime) -> Result<(), Fail> {
+fn faults_have_their_texts_and_numbers(rt: HostRuntime) {
     for (fault, number, status, text) in FAULTS {
-        assert!(rt;
-            fault.number() == number && exit_status(&Err(fault)) == status,
-            "{text}"
-        );
-        assert!(rt; told(rt.alloc(), &Err(fault))?.as_str() == text, "{text}");
+        check(&rt, numbers_of(fault) == (number, status), text);
+        let told = told(&rt, rt.alloc(), &Err(fault));
+        check(&rt, told.as_str() == text, text);
     }
-    assert!(rt; exit_status(&Ok(Ending::Done)) == 0);
-    Ok(())
+    check(&rt, exit_status(&Ok(Ending::Done)) == 0, "done");
+}
+
+/// Returns the number and the exit status of an error.
+fn numbers_of(fault: ToolFault) -> (u8, u8) {
+    (fault.number(), exit_status(&Err(fault)))
 }

@@ -2,11 +2,11 @@
 //! written bytes.
 
 use crate::calls::{CAPTURE, Call, hex};
+use crate::checks::check;
 use crate::fakes::{Giving, Taking};
 use dcc_tool::{Input, Limits, ToolFault};
 use std::alloc::Global;
 use std::process::Abort;
-use std::test::Fail;
 
 const LINES: &[u8] = b"loco s3 speed28 f 4\n# idle\n\nidle\nloco l1000 cv write 29 6\n";
 
@@ -93,86 +93,101 @@ fn play_behind_reads(
     played: Played,
     each: usize,
     calls_left: u32,
-) -> Result<bool, Fail> {
+) -> bool {
     let (call, text, want) = played;
     let mut input = Input::new(Giving::new(text, each, calls_left, false), Limits::full());
     let mut writer = Taking::new(alloc, 1000, 1000);
-    let answer = call.play(alloc, &mut input, &mut writer)?;
+    let answer = call.play(rt, alloc, &mut input, &mut writer);
     let written = writer.taken.as_slice();
     if answer.is_ok() {
-        assert!(rt; written == want);
-        return Ok(true);
+        check(rt, written == want, "another output");
+        return true;
     }
-    assert!(rt; answer == Err(ToolFault::Read));
-    assert!(rt; written.is_empty() || lists_up_to_a_fault(call) && written.ends_with(b"\n"));
-    assert!(rt; want.starts_with(written));
+    check(rt, answer == Err(ToolFault::Read), "another error");
+    check(rt, is_part(call, written, want), "no part of the output");
+    fails_again(rt, alloc, call, &mut input);
+    false
+}
+
+/// Returns true if an operation can write `written` of its output `want` before a failed read.
+fn is_part(call: Call, written: &[u8], want: &[u8]) -> bool {
+    let whole_lines = lists_up_to_a_fault(call) && written.ends_with(b"\n");
+    (written.is_empty() || whole_lines) && want.starts_with(written)
+}
+
+/// Asserts that a second call returns the error of a failed read and writes nothing.
+fn fails_again(rt: &impl Abort, alloc: Global, call: Call, input: &mut Input<Giving>) {
     let mut writer = Taking::new(alloc, 1000, 1000);
-    let again = call.play(alloc, &mut input, &mut writer)?;
-    assert!(rt; again == Err(ToolFault::Read) && writer.taken.is_empty());
-    Ok(false)
+    let again = call.play(rt, alloc, input, &mut writer);
+    check(rt, again == Err(ToolFault::Read), "another error");
+    check(rt, writer.taken.is_empty(), "an output");
 }
 
 /// Checks each operation with readers that fail after 0 to 99 reads. With 99 reads each operation
 /// reads its whole input.
 #[test]
-fn each_read_fails_in_turn(rt: HostRuntime) -> Result<(), Fail> {
+fn each_read_fails_in_turn(rt: HostRuntime) {
     for played in calls() {
         let each = if played.1.len() < 30 { 1 } else { 7 };
         let mut whole = 0;
         for calls_left in 0..100u32 {
-            if play_behind_reads(&rt, rt.alloc(), played, each, calls_left)? {
+            if play_behind_reads(&rt, rt.alloc(), played, each, calls_left) {
                 whole = whole.max(calls_left);
             } else {
-                assert!(rt; whole == 0);
+                check(&rt, whole == 0, "a later read fails");
             }
         }
-        assert!(rt; whole == 99);
+        check(&rt, whole == 99, "99 reads");
     }
-    Ok(())
 }
 
 /// Performs an operation with this writer. Returns true if the whole output was written. If a write
 /// fails, the function asserts that a prefix of the output was written.
-fn play_to(
-    rt: &impl Abort,
-    alloc: Global,
-    played: Played,
-    mut writer: Taking,
-) -> Result<bool, Fail> {
+fn play_to(rt: &impl Abort, alloc: Global, played: Played, mut writer: Taking) -> bool {
     let (call, text, want) = played;
     let mut input = Input::new(Giving::new(text, 512, 1000, false), Limits::full());
-    let answer = call.play(alloc, &mut input, &mut writer)?;
+    let answer = call.play(rt, alloc, &mut input, &mut writer);
+    let taken = writer.taken.as_slice();
     if answer.is_ok() {
-        assert!(rt; writer.taken.as_slice() == want);
-        return Ok(true);
+        check(rt, taken == want, "another output");
+        return true;
     }
-    assert!(rt; answer == Err(ToolFault::Write));
-    assert!(rt; want.starts_with(writer.taken.as_slice()));
-    assert!(rt; writer.each > 0 || writer.taken.is_empty());
-    Ok(false)
+    check(rt, answer == Err(ToolFault::Write), "another error");
+    check(rt, want.starts_with(taken), "no part of the output");
+    check(rt, writer.each > 0 || taken.is_empty(), "an output");
+    false
 }
 
 /// Checks each operation with writers that fail after any number of writes, up to a few more than
 /// the operation makes.
 #[test]
-fn each_write_fails_in_turn(rt: HostRuntime) -> Result<(), Fail> {
+fn each_write_fails_in_turn(rt: HostRuntime) {
     for played in calls() {
-        let enough = u32::try_from(played.2.len())
-            .unwrap_or(1000)
-            .saturating_add(10);
         for each in [1, 3, 1000] {
-            let mut whole = false;
-            for calls_left in 0..enough {
-                let writer = Taking::new(rt.alloc(), each, calls_left);
-                if play_to(&rt, rt.alloc(), played, writer)? {
-                    whole = true;
-                } else {
-                    assert!(rt; !whole);
-                }
-            }
-            assert!(rt; whole);
+            play_to_failing(&rt, rt.alloc(), played, each);
         }
-        assert!(rt; !play_to(&rt, rt.alloc(), played, Taking::new(rt.alloc(), 0, 1000))?);
+        let writer = Taking::new(rt.alloc(), 0, 1000);
+        check(
+            &rt,
+            !play_to(&rt, rt.alloc(), played, writer),
+            "no byte is taken",
+        );
     }
-    Ok(())
+}
+
+/// Checks an operation with writers that take at most `each` bytes.
+fn play_to_failing(rt: &impl Abort, alloc: Global, played: Played, each: usize) {
+    let enough = u32::try_from(played.2.len())
+        .unwrap_or(1000)
+        .saturating_add(10);
+    let mut whole = false;
+    for calls_left in 0..enough {
+        let writer = Taking::new(alloc, each, calls_left);
+        if play_to(rt, alloc, played, writer) {
+            whole = true;
+        } else {
+            check(rt, !whole, "a later write fails");
+        }
+    }
+    check(rt, whole, "no whole output");
 }

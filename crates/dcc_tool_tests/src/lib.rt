@@ -7,6 +7,8 @@ mod call_tests;
 #[cfg(test)]
 mod calls;
 #[cfg(test)]
+mod checks;
+#[cfg(test)]
 mod encode_order_tests;
 #[cfg(test)]
 mod ending_tests;

@@ -1,8 +1,8 @@
 //! Functions that read tables of worked examples. Each line of a table is a row, and bars separate
 //! the columns.
 //!
-//! `dcc_tests` has copies of `column` and `number`. Tests export no items to another crate, and a
-//! crate for both would be one more crate to prove.
+//! The other crates of tests have copies of these functions. Tests export no items to another
+//! crate, and a crate for all of them would be one more crate to prove.
 
 /// Returns the column with the number `number`, counted from 0, without spaces around it. The
 /// result is empty if the row has fewer columns.

@@ -1,13 +1,13 @@
 //! Tests of the operation `same`: verdicts, limits, and readers and writers that fail.
 
 use crate::calls::{pair, text_of, told};
+use crate::checks::check;
 use crate::fakes::{Giving, Taking};
 use crate::rows::{column, number};
 use dcc_order::Verdict;
-use dcc_tool::{Counted, Input, Limits, read_who, same};
+use dcc_tool::{Counted, Input, Limits, ToolFault, read_who, same};
 use std::alloc::Global;
 use std::process::Abort;
-use std::test::Fail;
 
 /// Each row has these columns:
 ///
@@ -59,45 +59,66 @@ fn is_told(verdict: Verdict, words: &str) -> bool {
     }
 }
 
+/// The input with the first capture.
+type First<'a> = Input<Counted<&'a [u8]>>;
+
 /// Compares the two captures of a row, and checks the results. After an error the function compares
 /// again, and checks that the error is the same and nothing is written.
-fn compare(rt: &impl Abort, alloc: Global, row: &str) -> Result<(), Fail> {
-    let left = text_of(alloc, column(row, 2))?;
-    let right = text_of(alloc, column(row, 3))?;
-    let written = text_of(alloc, column(row, 7))?;
+fn compare(rt: &impl Abort, alloc: Global, row: &str) {
+    let left = text_of(rt, alloc, column(row, 2));
+    let right = text_of(rt, alloc, column(row, 3));
     let (halves, bytes) = pair(column(row, 4), (16_777_216, 67_108_864));
-    let (each, reads) = pair(column(row, 5), (512, 1000));
-    let (takes, writes) = pair(column(row, 6), (1000, 1000));
     let mut first = Input::new(Counted::new(left.as_slice()), Limits { halves, bytes });
+    let (each, reads) = pair(column(row, 5), (512, 1000));
     let reader = Giving::new(right.as_slice(), each as usize, reads, false);
     let mut second = Input::new(reader, Limits::full());
+    let (takes, writes) = pair(column(row, 6), (1000, 1000));
     let mut writer = Taking::new(alloc, takes as usize, writes);
-    let who = read_who(column(row, 1))?;
-    let answer = same(alloc, &mut first, &mut second, &mut writer, who);
-    assert!(rt; writer.taken.as_slice() == written.as_slice(), "{row}");
-    match answer {
-        Ok(verdict) => assert!(rt;
-            is_told(verdict, column(row, 7).trim_end_matches('/')),
-            "{row}"
-        ),
-        Err(fault) => {
-            let text = told(alloc, &Err(fault))?;
-            assert!(rt; text.as_str() == column(row, 8), "{row}");
-            let again = same(alloc, &mut first, &mut second, &mut writer, who);
-            assert!(rt;
-                text.as_str().starts_with("U5") || again == Err(fault),
-                "{row}"
-            );
-            assert!(rt; writer.taken.as_slice() == written.as_slice(), "{row}");
-        }
+    let answer = play_same(rt, alloc, row, &mut first, &mut second, &mut writer);
+    has_written(rt, alloc, row, &writer);
+    check(rt, is_answer(rt, alloc, row, answer), row);
+    if answer.is_err() {
+        let again = play_same(rt, alloc, row, &mut first, &mut second, &mut writer);
+        check(rt, column(row, 8).starts_with("U5") || again == answer, row);
+        has_written(rt, alloc, row, &writer);
     }
-    Ok(())
+}
+
+/// Compares two inputs for the decoder of a row.
+fn play_same(
+    rt: &impl Abort,
+    alloc: Global,
+    row: &str,
+    first: &mut First,
+    second: &mut Input<Giving>,
+    writer: &mut Taking,
+) -> Result<Verdict, ToolFault> {
+    let who = read_who(column(row, 1)).expect(rt, row);
+    same(alloc, first, second, writer, who)
+}
+
+/// Asserts that the text of a row was written.
+fn has_written(rt: &impl Abort, alloc: Global, row: &str, writer: &Taking) {
+    let written = text_of(rt, alloc, column(row, 7));
+    check(rt, writer.taken.as_slice() == written.as_slice(), row);
+}
+
+/// Returns true if a row has this verdict or this error.
+fn is_answer(
+    rt: &impl Abort,
+    alloc: Global,
+    row: &str,
+    answer: Result<Verdict, ToolFault>,
+) -> bool {
+    match answer {
+        Ok(verdict) => is_told(verdict, column(row, 7).trim_end_matches('/')),
+        Err(fault) => told(rt, alloc, &Err(fault)).as_str() == column(row, 8),
+    }
 }
 
 #[test]
-fn two_captures(rt: HostRuntime) -> Result<(), Fail> {
+fn two_captures(rt: HostRuntime) {
     for row in ROWS.lines() {
-        compare(&rt, rt.alloc(), row)?;
+        compare(&rt, rt.alloc(), row);
     }
-    Ok(())
 }

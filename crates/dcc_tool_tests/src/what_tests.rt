@@ -1,21 +1,22 @@
 //! Tests of the sentences of `what`.
 
+use crate::checks::check;
 use crate::fakes::{Giving, Taking};
 use dcc_tool::{Counted, Input, Limits, ToolFault, what};
 use std::alloc::Global;
-use std::test::Fail;
+use std::process::Abort;
 
-/// Returns the sentence about an input.
-fn said(alloc: Global, bytes: &[u8]) -> Result<Vec<u8>, Fail> {
+/// Returns true if `sentence` is the sentence about an input.
+fn is_said(rt: &impl Abort, alloc: Global, bytes: &[u8], sentence: &[u8]) -> bool {
     let mut input = Input::new(Counted::new(bytes), Limits::full());
     let mut writer = Counted::new(Vec::new(alloc));
-    what(alloc, &mut input, &mut writer)?;
-    Ok(writer.inner)
+    what(alloc, &mut input, &mut writer).expect(rt, "a sentence");
+    writer.inner.as_slice() == sentence
 }
 
 /// Checks files that are known by their first bytes.
 #[test]
-fn files_are_known_by_their_first_bytes(rt: HostRuntime) -> Result<(), Fail> {
+fn files_are_known_by_their_first_bytes(rt: HostRuntime) {
     let rows: [(&[u8], &[u8]); 6] = [
         (
             b"PK\x03\x04\x14\0",
@@ -43,14 +44,13 @@ fn files_are_known_by_their_first_bytes(rt: HostRuntime) -> Result<(), Fail> {
         ),
     ];
     for (bytes, sentence) in rows {
-        assert!(rt; said(rt.alloc(), bytes)?.as_slice() == sentence);
+        check(&rt, is_said(&rt, rt.alloc(), bytes, sentence), "a row");
     }
-    Ok(())
 }
 
 /// Checks words that are no runs: their line, their place, and their bytes.
 #[test]
-fn a_wrong_word_is_shown_with_its_place(rt: HostRuntime) -> Result<(), Fail> {
+fn a_wrong_word_is_shown_with_its_place(rt: HostRuntime) {
     let rows: [(&[u8], &[u8]); 6] = [
         (
             b"58 58 x",
@@ -78,31 +78,35 @@ fn a_wrong_word_is_shown_with_its_place(rt: HostRuntime) -> Result<(), Fail> {
         ),
     ];
     for (bytes, sentence) in rows {
-        assert!(rt; said(rt.alloc(), bytes)?.as_slice() == sentence);
+        check(&rt, is_said(&rt, rt.alloc(), bytes, sentence), "a row");
     }
-    Ok(())
 }
 
 /// Checks the errors of `what`. After a failed read, a limit that is exceeded, or a failed write,
 /// nothing was written.
 #[test]
-fn errors_of_what(rt: HostRuntime) -> Result<(), Fail> {
+fn errors_of_what(rt: HostRuntime) {
     let mut input = Input::new(Giving::new(b"58 58", 1, 2, false), Limits::full());
-    let mut writer = Counted::new(Vec::new(rt.alloc()));
     for _ in 0..2u32 {
+        let mut writer = Taking::new(rt.alloc(), 1000, 1000);
         let answer = what(rt.alloc(), &mut input, &mut writer);
-        assert!(rt; answer == Err(ToolFault::Read) && writer.inner.is_empty());
+        check(&rt, answer == Err(ToolFault::Read), "a failed read");
+        check(&rt, writer.taken.is_empty(), "nothing is written");
     }
     let limits = Limits {
         halves: 9,
         bytes: 4,
     };
+    is_refused(&rt, rt.alloc(), limits, 1000, ToolFault::TooMuch);
+    is_refused(&rt, rt.alloc(), Limits::full(), 0, ToolFault::Write);
+}
+
+/// Asserts that `what` returns this error and writes nothing. The writer takes 4 bytes in a call,
+/// and fails after `writes` calls.
+fn is_refused(rt: &impl Abort, alloc: Global, limits: Limits, writes: u32, fault: ToolFault) {
     let mut input = Input::new(Counted::new(b"58 58".as_slice()), limits);
-    let answer = what(rt.alloc(), &mut input, &mut writer);
-    assert!(rt; answer == Err(ToolFault::TooMuch) && writer.inner.is_empty());
-    let mut input = Input::new(Counted::new(b"58 58".as_slice()), Limits::full());
-    let mut failing = Taking::new(rt.alloc(), 4, 0);
-    let answer = what(rt.alloc(), &mut input, &mut failing);
-    assert!(rt; answer == Err(ToolFault::Write) && failing.taken.is_empty());
-    Ok(())
+    let mut writer = Taking::new(alloc, 4, writes);
+    let answer = what(alloc, &mut input, &mut writer);
+    check(rt, answer == Err(fault), "another error");
+    check(rt, writer.taken.is_empty(), "an output");
 }

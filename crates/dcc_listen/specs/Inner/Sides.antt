@@ -1,6 +1,6 @@
 -- The states of the two sources from which a comparison gets packets. A source is a capture that is
 -- read, or a list of stored packets.
-use Rattle.std.specs.Prelude.{◌≡◌, ◌<◌, ◌^◌, ◌++◌, ◌⊎◌, Bool, true, false, List, None, length}
+use Rattle.std.specs.Prelude.{◌≡◌, ℕ, ◌<◌, ◌^◌, ◌++◌, ◌⊎◌, Bool, true, false, List, None, length}
 use Rattle.dcc_packet.specs.declared.packet.Packet.{Packet}
 use Rattle.dcc_wire.specs.declared.framer.Framer.{Framer}
 use Rattle.dcc_order.specs.GivenLists.{MayFollow}
@@ -13,16 +13,16 @@ use Rattle.dcc_listen.specs.Taking.{Gathering}
 
 -- `packets` are the packets that were read from a capture between the states `start` and `now` of
 -- its input. If the first argument is true, the whole capture was read.
-abbrev pub SideRead : Bool → InputState → InputState → Framer → List Packet → Type 0
-SideRead false start now framer packets = Gathering start now framer packets
-SideRead true start now framer packets = Gathered start packets now
+abbrev pub SideRead : Bool → InputState → InputState → List ℕ → Framer → List Packet → Type 0
+SideRead false start now pending framer packets = Gathering start now pending framer packets
+SideRead true start now pending framer packets = Gathered start packets now
 
 -- `packets` are the packets that were read from a capture between the states `start` and `now` of
 -- its input. `progress` is the state of this reading.
 pub record CaptureTook (start now : InputState) (packets : List Packet) (progress : Progress) : Type 0 where
   pub none_kept : start.fault ≡ None
   pub few : start.halves < 2 ^ 32
-  pub read : SideRead progress.ended start now progress.framer packets
+  pub read : SideRead progress.ended start now progress.pending progress.framer packets
 
 -- `packets` were read from the stored packets `start`, and the packets `now` are still to be read.
 -- If `ended` is true, there is no packet in `now`.

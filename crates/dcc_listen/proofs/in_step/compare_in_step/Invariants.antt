@@ -12,4 +12,5 @@ invariant-packets g l = record {
 
 abbrev pub decreases-packets : goal.decreases-packets
 decreases-packets g l =
-    g.L.Side.left l.left + g.R.Side.left l.right + cond l.left_progress.ended 0 1 + cond l.right_progress.ended 0 1
+    g.L.Side.left l.left l.left_progress + g.R.Side.left l.right l.right_progress + cond l.left_progress.ended 0 1
+    + cond l.right_progress.ended 0 1

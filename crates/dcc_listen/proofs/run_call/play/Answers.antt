@@ -1,7 +1,7 @@
 use Rattle.std.proofs.Common.{arith, replicate, take}
 use Rattle.std.proofs.lemmas.List.{length-take-le}
 use Rattle.std.proofs.lemmas.Result.{err_from_is_err_and}
-use Rattle.dcc_capture.proofs.HalfLemmas.{fewer_bytes, halves_taken, none_taken}
+use Rattle.dcc_capture.proofs.HalfLemmas.{bytes_taken, halves_taken, none_taken}
 use Rattle.dcc_listen.proofs.RunLemmas.{Hearing-start, Hearing-more, hears_up_to, hears_all}
 use Rattle.dcc_listen.proofs.run_call.play.Goals as goal
 
@@ -15,8 +15,7 @@ runs-smaller-then-count-gt0 g c =
     let batch = c.take_buffered_halves-count in
     let len = length-take-le batch.result batch.new.halves batch.ensures.count in
     let some = c.if-count-gt0.true in
-    fewer_bytes c.runs.input batch.new.input (take batch.result batch.new.halves) c.runs.invariant.gave.fault
-    batch.ensures.taken (omega arith)
+    omega (arith, len, some, bytes_taken _ _ _ batch.ensures.taken)
 
 pub runs-preserved-then-count-gt0 : goal.runs-preserved-then-count-gt0
 runs-preserved-then-count-gt0 g c =

@@ -14,4 +14,4 @@ invariant-packets g l = record {
 }
 
 abbrev pub decreases-packets : goal.decreases-packets
-decreases-packets g l = g.S.Side.left l.side + cond l.progress.ended 0 1
+decreases-packets g l = g.S.Side.left l.side l.progress + cond l.progress.ended 0 1

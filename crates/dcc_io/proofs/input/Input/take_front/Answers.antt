@@ -1,4 +1,4 @@
-use Rattle.std.proofs.Common.{◌-◌, take, ap, arith}
+use Rattle.std.proofs.Common.{◌-◌, ◌∙◌, take, ap, arith}
 use Rattle.dcc_io.specs.InputState.{InputState}
 use Rattle.dcc_io.proofs.FrontLemmas.{begins_with}
 use Rattle.dcc_io.proofs.input.Input.take_front.Goals as goal
@@ -18,5 +18,6 @@ returns-clause-some g c =
       passed = passed;
       some = omega (arith, passed.halves, left);
       counted = counted;
+      lines = ap (λ (input : InputState). input.lines) counted ∙ c.pass_word_and_gap.ensures.lines;
       fewer = omega (arith, ap (λ (input : InputState). input.bytes) counted, c.pass_word_and_gap.ensures.fewer);
     }

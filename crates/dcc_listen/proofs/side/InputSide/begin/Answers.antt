@@ -6,5 +6,5 @@ pub returns-clause-took : goal.returns-clause-took
 returns-clause-took g c = record {
   none_kept = c.requires;
   few = subst (λ n. n < 4294967296) c.halves_left-most.ensures (omega arith);
-  read = Gathering-start c.args.self.now c.new.result c.requires c.new.ensures;
+  read = rw c.new.ensures (Gathering-start c.args.self.now c.new-2.result c.requires c.new-2.ensures);
 }

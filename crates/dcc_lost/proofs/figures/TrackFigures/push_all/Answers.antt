@@ -8,29 +8,29 @@ use Rattle.dcc_lost.proofs.figures.TrackFigures.push_all.Goals as goal
 pub halves-preserved : goal.halves-preserved
 halves-preserved c =
     let before = c.halves.invariant in
-    let passed = c.pass_bits-at.ensures in
+    let passed = c.pass_some-at.ensures in
     let halves = c.args.halves.now in
     record {
       measures = λ durations are.
-          rw (take_both halves c.halves.at c.pass_bits-at.result durations)
+          rw (take_both halves c.halves.at c.pass_some-at.result durations)
           (passed.measures (durations ++ take c.halves.at halves) (before.measures durations are));
       count = omega (arith, passed.count, before.count);
-      inside = rest_inside halves c.halves.at c.pass_bits-at.result before.inside passed.within;
+      inside = rest_inside halves c.halves.at c.pass_some-at.result before.inside passed.within;
     }
 
 pub halves-preserved-then-at-halves : goal.halves-preserved-then-at-halves
 halves-preserved-then-at-halves c =
     let before = c.halves.invariant in
-    let passed = c.pass_bits-at.ensures in
+    let passed = c.pass_some-at.ensures in
     let halves = c.args.halves.now in
-    let at = c.halves.at + c.pass_bits-at.result in
+    let at = c.halves.at + c.pass_some-at.result in
     record {
       measures = λ durations are.
           rw (take_more halves at 0 c.if-at-halves.true, ← append_assoc)
-          (c.push.ensures.measures (durations ++ take at halves)
-          (rw (take_both halves c.halves.at c.pass_bits-at.result durations)
+          (c.push_inline.ensures.measures (durations ++ take at halves)
+          (rw (take_both halves c.halves.at c.pass_some-at.result durations)
           (passed.measures (durations ++ take c.halves.at halves) (before.measures durations are))));
-      count = omega (arith, c.push.ensures.count, passed.count, before.count);
+      count = omega (arith, c.push_inline.ensures.count, passed.count, before.count);
       inside = omega (arith, c.if-at-halves.true);
     }
 

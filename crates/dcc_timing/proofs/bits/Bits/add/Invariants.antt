@@ -5,7 +5,7 @@ use Rattle.dcc_timing.proofs.bits.Bits.add.Given as goal
 abbrev pub invariant-bits : goal.invariant-bits
 invariant-bits l = record {
   within : l.place ≤ length l.halves;
-  adding : Adding l.initial.self l.self l.halves (drop l.place l.halves);
+  adding : Adding l.fn.self l.self l.halves (drop l.place l.halves);
 }
 
 abbrev pub decreases-bits : goal.decreases-bits

@@ -5,10 +5,10 @@ use Rattle.dcc_timing.proofs.recent.LastNumbers.take.Given as goal
 
 abbrev pub invariant-numbers : goal.invariant-numbers
 invariant-numbers l = record {
-  within : l.left ≤ l.initial.left;
-  taken : (numbers : List ℕ) → recent_numbers l.initial.self ≡ keep_last 130 numbers
-      → recent_numbers l.self ≡ keep_last 130 (numbers ++ replicate (l.initial.left - l.left) l.number);
+  within : l.taken ≤ l.count;
+  copies : (numbers : List ℕ) → recent_numbers l.initial.self ≡ keep_last 130 numbers
+      → recent_numbers l.self ≡ keep_last 130 (numbers ++ replicate l.taken l.number);
 }
 
 abbrev pub decreases-numbers : goal.decreases-numbers
-decreases-numbers l = l.left
+decreases-numbers l = l.count - l.taken
