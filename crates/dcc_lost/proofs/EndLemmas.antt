@@ -74,11 +74,10 @@ body_ends : (frame : List ℕ) (front : List Bool) (bytes : List ℕ) → body_b
 unfolding body
 body_ends frame front bytes e = ap halves_of e ∙ halves_of-append front (body_bits bytes)
 
-zero_of : (durations : List ℕ) (halves : List Half) (i : ℕ) → map nearest_class durations ≡ halves
-    → i < length durations
-    → get_or halves i Bad ≡ Zero → nearest_class (get_or durations i 0) ≡ Zero
-zero_of durations halves i is within zero =
-    sym (get_or-map nearest_class durations i 0 Bad within) ∙ ap (λ l. get_or l i Bad) is ∙ zero
+class_at : (durations : List ℕ) (halves : List Half) (i : ℕ) (class : Half) → map nearest_class durations ≡ halves
+    → i < length durations → get_or halves i Bad ≡ class → nearest_class (get_or durations i 0) ≡ class
+class_at durations halves i class is within at =
+    sym (get_or-map nearest_class durations i 0 Bad within) ∙ ap (λ l. get_or l i Bad) is ∙ at
 
 -- half-bits that end with a frame
 pub starts_at_end : (durations frame : List ℕ) → EndsWithFrame durations frame → HasStartBits (keep_last 56 durations)
@@ -102,61 +101,16 @@ starts_at_end durations frame ends =
     omega (arith, length-drop (length durations - 56) durations, count) in
     let zeros = starts three.1 three.2 three.3 in (
       all,
-      zero_of (keep_last 56 durations) last 0 is (omega (arith, all)) zeros.0,
-      zero_of (keep_last 56 durations) last 18 is (omega (arith, all)) zeros.1,
-      zero_of (keep_last 56 durations) last 36 is (omega (arith, all)) zeros.2,
+      class_at (keep_last 56 durations) last 0 Zero is (omega (arith, all)) zeros.0,
+      class_at (keep_last 56 durations) last 18 Zero is (omega (arith, all)) zeros.1,
+      class_at (keep_last 56 durations) last 36 Zero is (omega (arith, all)) zeros.2,
     )
 
 no_first : (a b : Option (List ℕ)) → ((frame : List ℕ) → a ≡ Some frame → ⊥) → b ≡ None → option_or a b ≡ None
 no_first None b none e = e
 no_first (Some frame) b none e = absurd (none frame refl)
 
--- without the start bits of three bytes no frame is at the end
-pub no_frame : (durations : List ℕ) → (HasStartBits (keep_last 56 durations) → ⊥) → longest_frame_at_end durations
-    ≡ None
-unfolding longest_frame_at_end
-no_frame durations none =
-    no_first (frame_at_end 6 durations) _ (other 6)
-    (no_first (frame_at_end 5 durations) _ (other 5)
-    (no_first (frame_at_end 4 durations) _ (other 4) (alone (frame_at_end 3 durations) (other 3))))
-  where
-    other : (n : ℕ) → (frame : List ℕ) → frame_at_end n durations ≡ Some frame → ⊥
-    other n frame e = none (starts_at_end durations frame (ends_with n durations frame e).0)
-
-    alone : (a : Option (List ℕ)) → ((frame : List ℕ) → a ≡ Some frame → ⊥) → a ≡ None
-    alone None not_it = refl
-    alone (Some frame) not_it = absurd (not_it frame refl)
-
--- the same of the last 130 half-bits
-pub no_frame_recent : (durations last halves : List ℕ) → last ≡ keep_last 130 durations → halves ≡ keep_last 56 last
-    → (HasStartBits halves → ⊥) → longest_frame_at_end durations ≡ None
-no_frame_recent durations last halves is are none =
-    no_frame durations
-    (λ has. none (rw (are ∙ ap (keep_last 56) is ∙ keep_last_keep 56 130 durations (omega arith)) has))
-
-pub busy_none : (hunts : Bool) (longest : Option (List ℕ)) → hunts ≡ false → (if hunts then longest else None) ≡ None
-busy_none hunts longest busy = rw busy refl
-
-pub quiet_none : (hunts : Bool) (longest : Option (List ℕ)) → longest ≡ None → (if hunts then longest else None) ≡ None
-quiet_none true longest none = none
-quiet_none false longest none = refl
-
--- the packet at the end
-
-pub packet_none_at_end : (f : List ℕ → LostPacket) (longest : Option (List ℕ)) → longest ≡ None
-    → None ≡ option_map f longest
-packet_none_at_end f longest e = rw e
-
-pub packet_some_at_end : (f : List ℕ → LostPacket) (longest : Option (List ℕ)) (frame : List ℕ) (packet : LostPacket)
-    → longest ≡ Some frame → packet ≡ f frame → Some packet ≡ option_map f longest
-packet_some_at_end f longest frame packet e is = rw (e, is)
-
 -- the half-bits before a body, and its first half-bit
-
-class_at : (durations : List ℕ) (halves : List Half) (i : ℕ) (class : Half) → map nearest_class durations ≡ halves
-    → i < length durations → get_or halves i Bad ≡ class → nearest_class (get_or durations i 0) ≡ class
-class_at durations halves i class is within at =
-    sym (get_or-map nearest_class durations i 0 Bad within) ∙ ap (λ l. get_or l i Bad) is ∙ at
 
 first_of_body : (frame : List ℕ) → 0 < length frame → get_or (body frame) 0 Bad ≡ Zero
 unfolding body body_bits halves_of
@@ -204,3 +158,32 @@ no_body durations none =
     alone : (a : Option (List ℕ)) → ((frame : List ℕ) → a ≡ Some frame → ⊥) → a ≡ None
     alone None not_it = refl
     alone (Some frame) not_it = absurd (not_it frame refl)
+
+-- without the start bits of three bytes no frame is at the end
+pub no_frame : (durations : List ℕ) → (HasStartBits (keep_last 56 durations) → ⊥) → longest_frame_at_end durations
+    ≡ None
+no_frame durations none = no_body durations (λ m least most has one zero. none has)
+
+-- the same of the last 130 half-bits
+pub no_frame_recent : (durations last halves : List ℕ) → last ≡ keep_last 130 durations → halves ≡ keep_last 56 last
+    → (HasStartBits halves → ⊥) → longest_frame_at_end durations ≡ None
+no_frame_recent durations last halves is are none =
+    no_frame durations
+    (λ has. none (rw (are ∙ ap (keep_last 56) is ∙ keep_last_keep 56 130 durations (omega arith)) has))
+
+pub busy_none : (hunts : Bool) (longest : Option (List ℕ)) → hunts ≡ false → (if hunts then longest else None) ≡ None
+busy_none hunts longest busy = rw busy refl
+
+pub quiet_none : (hunts : Bool) (longest : Option (List ℕ)) → longest ≡ None → (if hunts then longest else None) ≡ None
+quiet_none true longest none = none
+quiet_none false longest none = refl
+
+-- the packet at the end
+
+pub packet_none_at_end : (f : List ℕ → LostPacket) (longest : Option (List ℕ)) → longest ≡ None
+    → None ≡ option_map f longest
+packet_none_at_end f longest e = rw e
+
+pub packet_some_at_end : (f : List ℕ → LostPacket) (longest : Option (List ℕ)) (frame : List ℕ) (packet : LostPacket)
+    → longest ≡ Some frame → packet ≡ f frame → Some packet ≡ option_map f longest
+packet_some_at_end f longest frame packet e is = rw (e, is)

@@ -3,23 +3,21 @@ use Rattle.std.proofs.Common.{◌*◌, slice_set}
 use Rattle.std.proofs.Common.{◌≡◌, ℕ, suc, ◌+◌, ◌-◌, ◌<◌, ◌≤◌, min, List, [], ◌∷◌, ◌++◌, length, take}
 use Rattle.std.proofs.Common.{get_or, None, refl, sym, ap, ◌∙◌, arith, append-nil, append_assoc, length-append}
 use Rattle.std.proofs.Common.{true, inl, inr}
-use Rattle.std.proofs.Common.{length-take-le}
 use Rattle.std.proofs.lemmas.Bool.{cases_lt}
 use Rattle.std.proofs.lemmas.Bool.Decides.{nat_tests}
-use Rattle.std.proofs.lemmas.List.{take_more, take_more_set, get_or-append-add, get_or-drop, get_or-take}
+use Rattle.std.proofs.lemmas.List.{take_more, take_more_set, get_or-append-add, get_or-drop}
 use Rattle.std.proofs.lemmas.List.{get_or_append_left}
 use Rattle.std.proofs.lemmas.List.{length-drop, length-take, take-take, take_all}
 use Rattle.dcc_wire.specs.declared.half.Half.TheVariants.{One, Zero}
 use Rattle.dcc_wire.specs.declared.seen.Seen.TheVariants.{Nothing}
-use Rattle.dcc_wire.specs.Framing.{Rest, Hunting, InBody, is_hunting, report_at, rest, seen}
+use Rattle.dcc_wire.specs.Framing.{is_hunting, rest}
 use Rattle.dcc_wire.specs.Half.{class_of}
-use Rattle.dcc_wire.specs.Inner.Steps.{answer_to, rest_after}
-use Rattle.dcc_wire.proofs.FramingLemmas.{rest-push, seen-push}
 use Rattle.dcc_timing.specs.Numbers.{keep_last}
 use Rattle.dcc_timing.specs.Ones.{AllOnes}
+use Rattle.dcc_timing.proofs.OneLemmas.{hunts_on, quiet_one}
 use Rattle.dcc_lost.specs.declared.figures.Ended.{Ended}
 use Rattle.dcc_lost.specs.Figures.{AreLostFigures, preambles_from}
-use Rattle.dcc_lost.specs.Inner.{BeginsBody, CanBeginBody, CanEndFrame, rising}
+use Rattle.dcc_lost.specs.Inner.{BeginsBody, CanEndFrame, rising}
 use Rattle.dcc_lost.specs.Lost.{frame_lost, longest_frame_at_end}
 use Rattle.dcc_lost.specs.Nearest.{nearest_class}
 use Rattle.dcc_lost.specs.Preambles.{preamble_at_end}
@@ -37,25 +35,6 @@ rising_more numbers first i next inside is before =
     take_more_set numbers i next inside ∙ ap (λ l. l ++ next ∷ []) before
     ∙ ap (λ k. rising first i ++ k ∷ []) is ∙ ap (rising first) (sym more)
 
--- a half-bit of a one between two bodies
-
-hunts_after : (framer : Rest) → is_hunting framer ≡ true
-    → (is_hunting (rest_after framer One) ≡ true) × (answer_to framer One ≡ Nothing)
-unfolding rest_after answer_to
-hunts_after (Hunting ones) hunts = (refl, refl)
-hunts_after (InBody halves) hunts = absurd (let never = hunts in cc)
-
-module _ (durations : List ℕ) (us : ℕ) (one : class_of us ≡ One) (hunts : is_hunting (rest durations) ≡ true) where
-  pub hunts_on : is_hunting (rest (durations ++ us ∷ [])) ≡ true
-  hunts_on = rw (rest-push durations us, one) (hunts_after (rest durations) hunts).0
-
-  pub quiet_one : seen (durations ++ us ∷ []) ≡ seen durations
-  unfolding report_at
-  quiet_one =
-      let none : answer_to (rest durations) (class_of us) ≡ Nothing =
-      rw one (hunts_after (rest durations) hunts).1 in
-      seen-push durations us ∙ rw none (append-nil (seen durations))
-
 nearest_one : (us : ℕ) → class_of us ≡ One → nearest_class us ≡ One
 nearest_one us one = grind (arith, nat_tests)
 
@@ -66,19 +45,24 @@ ones_at [] n all inside = absurd (omega (arith, inside))
 ones_at (us ∷ halves) ℕ.zero all inside = all.0
 ones_at (us ∷ halves) (suc n) all inside = ones_at halves n all.1 (omega (arith, inside))
 
--- `n + 1` half-bits of ones at the end of a list
-module _ (durations halves : List ℕ) (all : AllOnes halves) (n : ℕ) (inside : n < length halves)
+-- the first half-bits of a list of ones
+pub ones_first : (halves : List ℕ) (n : ℕ) → AllOnes halves → AllOnes (take n halves)
+unfolding AllOnes
+ones_first halves ℕ.zero all = tt
+ones_first [] (suc n) all = tt
+ones_first (us ∷ halves) (suc n) all = (all.0, ones_first halves n all.1)
+
+-- half-bits of ones at the end of a list
+module _ (durations halves : List ℕ) (all : AllOnes halves) (n : ℕ) (count : length halves ≡ n + 1)
     (whole : length (keep_last 130 durations) ≡ 130) where
   abbrev longer : List ℕ
-  longer = durations ++ take (n + 1) halves
+  longer = durations ++ halves
 
   long : 130 ≤ length durations
   long = omega (arith, whole, length-drop (length durations - 130) durations)
 
   length_longer : length longer ≡ length durations + (n + 1)
-  length_longer =
-      length-append durations (take (n + 1) halves)
-      ∙ ap (λ k. length durations + k) (length-take-le (n + 1) halves (omega (arith, inside)))
+  length_longer = omega (arith, length-append durations halves, count)
 
   -- the half-bit so many places before the end
   before_ones : (back i : ℕ) → i + back ≡ n + 131 → i < 130
@@ -86,7 +70,7 @@ module _ (durations halves : List ℕ) (all : AllOnes halves) (n : ℕ) (inside 
   before_ones back i is few =
       let place : length longer - back ≡ length durations - 130 + i = omega (arith, length_longer, long, is, few) in
       ap (λ k. get_or longer k 0) place
-      ∙ get_or_append_left durations (take (n + 1) halves) 0 _ (omega (arith, long, few))
+      ∙ get_or_append_left durations halves 0 _ (omega (arith, long, few))
       ∙ sym (get_or-drop (length durations - 130) durations i 0)
 
   in_last : (k back : ℕ) → k + back ≡ 56 → get_or (keep_last 56 longer) k 0 ≡ get_or longer (length longer - back) 0
@@ -94,23 +78,24 @@ module _ (durations halves : List ℕ) (all : AllOnes halves) (n : ℕ) (inside 
       let place : length longer - 56 + k ≡ length longer - back = omega (arith, length_longer, long, is) in
       get_or-drop (length longer - 56) longer k 0 ∙ ap (λ i. get_or longer i 0) place
 
+  -- (after 20 ones, a half-bit of a one stands where the last byte would begin)
   in_ones : 19 ≤ n → class_of (get_or (keep_last 56 longer) 36 0) ≡ One
   in_ones many =
       let place : length longer - 20 ≡ length durations + (n - 19) = omega (arith, length_longer, many) in
       let same : get_or (keep_last 56 longer) 36 0 ≡ get_or halves (n - 19) 0 =
-      in_last 36 20 refl ∙ ap (λ i. get_or longer i 0) place
-      ∙ get_or-append-add durations (take (n + 1) halves) (n - 19) 0
-      ∙ get_or-take (n + 1) halves (n - 19) 0 (omega (arith, many)) in
-      rw same (ones_at halves (n - 19) all (omega (arith, inside)))
+      in_last 36 20 refl ∙ ap (λ i. get_or longer i 0) place ∙ get_or-append-add durations halves (n - 19) 0 in
+      rw same (ones_at halves (n - 19) all (omega (arith, count)))
 
-  begins_in : (m i : ℕ) → n < 19 → i + (18 * m + 3) ≡ n + 131 → 3 ≤ m
+  begins_in : (m : ℕ) → n < 19 → 3 ≤ m → m ≤ 6
       → nearest_class (get_or longer (length longer - (18 * m + 3)) 0) ≡ One
       → nearest_class (get_or longer (length longer - (18 * m + 2)) 0) ≡ Zero
-      → BeginsBody (keep_last 130 durations) i
-  begins_in m i few is least one zero = (
-    rw (before_ones (18 * m + 3) i is (omega (arith, is, least, few))) at one,
-    rw (before_ones (18 * m + 2) (i + 1) (omega (arith, is)) (omega (arith, is, least, few))) at zero,
-  )
+      → BeginsBody (keep_last 130 durations) (n + 128 - 18 * m)
+  begins_in m few least most one zero =
+      let i : ℕ = n + 128 - 18 * m in
+      let is : i + (18 * m + 3) ≡ n + 131 = omega (arith, most) in (
+        rw (before_ones (18 * m + 3) i is (omega (arith, is, least, few))) at one,
+        rw (before_ones (18 * m + 2) (i + 1) (omega (arith, is)) (omega (arith, is, least, few))) at zero,
+      )
 
   pub no_frame_ends : (n < 19 → CanEndFrame (keep_last 130 durations) n → ⊥) → longest_frame_at_end longer ≡ None
   no_frame_ends quiet = no_body longer (λ m least most has one zero. elim (cases_lt n 19) [
@@ -119,27 +104,12 @@ module _ (durations halves : List ℕ) (all : AllOnes halves) (n : ℕ) (inside 
           rw (in_last 0 56 refl, before_ones 56 (n + 75) (omega arith) (omega (arith, few))) at has.1,
           rw (in_last 18 38 refl, before_ones 38 (n + 93) (omega arith) (omega (arith, few))) at has.2,
           rw (in_last 36 20 refl, before_ones 20 (n + 111) (omega arith) (omega (arith, few))) at has.3,
-          begins few m least most one zero,
+          (m, least, most, begins_in m few least most one zero),
         )
     | inr many ↦
         let it = nearest_one (get_or (keep_last 56 longer) 36 0) (in_ones many) in
         let clash : One ≡ Zero = sym it ∙ has.3 in cc
   ])
-    where
-      begins : n < 19 → (m : ℕ) → 3 ≤ m → m ≤ 6
-          → nearest_class (get_or longer (length longer - (18 * m + 3)) 0) ≡ One
-          → nearest_class (get_or longer (length longer - (18 * m + 2)) 0) ≡ Zero
-          → CanBeginBody (keep_last 130 durations) n
-      begins few m least most one zero = elim (cases_lt m 4) [
-        | inl three ↦ inl (begins_in m (n + 74) few (omega (arith, three, least)) least one zero)
-        | inr more ↦ elim (cases_lt m 5) [
-          | inl four ↦ inr (inl (begins_in m (n + 56) few (omega (arith, four, more)) least one zero))
-          | inr others ↦ elim (cases_lt m 6) [
-            | inl five ↦ inr (inr (inl (begins_in m (n + 38) few (omega (arith, five, others)) least one zero)))
-            | inr six ↦ inr (inr (inr (begins_in m (n + 20) few (omega (arith, six, most)) least one zero)))
-          ]
-        ]
-      ]
 
 -- half-bits of ones at the end of a list, one after the other
 
@@ -150,9 +120,9 @@ pub record OnesPassed (durations halves : List ℕ) (ended : Ended) (ones unused
   pub preambles : preambles_from [] (durations ++ take n halves)
       ≡ preambles_from [] durations ++ rising (min ones unused) n
 
-module _ (durations halves : List ℕ) (all : AllOnes halves) (whole : length (keep_last 130 durations) ≡ 130)
-    (quiet : (n : ℕ) → n < length halves → n < 19 → CanEndFrame (keep_last 130 durations) n → ⊥) (ended : Ended)
-    (ones unused : ℕ) where
+module _ (durations halves : List ℕ) (all : AllOnes halves)
+    (quiet : (n : ℕ) → n < length halves → longest_frame_at_end (durations ++ take (n + 1) halves) ≡ None)
+    (ended : Ended) (ones unused : ℕ) where
   passed_more : (n : ℕ) → n < length halves → OnesPassed durations halves ended ones unused n
       → OnesPassed durations halves ended ones unused (suc n)
   unfolding rising preamble_at_end
@@ -168,7 +138,7 @@ module _ (durations halves : List ℕ) (all : AllOnes halves) (whole : length (k
       let old = passed.figures.1 in
       let none : frame_lost before us ≡ None =
       sym (found_at before us Nothing (shows_nothing before us same) refl)
-      ∙ quiet_none _ _ (rw grows at (no_frame_ends durations halves all n inside whole (quiet n inside))) in
+      ∙ quiet_none _ _ (rw grows at (quiet n inside)) in
       let preamble : preamble_at_end before ≡ min 65535 (min ones unused + n) = omega
       (arith, old.ones_are, old.unused_are) in
       let next : AreLostFigures ended (min 65535 (ones + (n + 1))) (min 65535 (unused + (n + 1)))

@@ -1,5 +1,6 @@
 -- Definitions that only contracts of private functions use.
-use Rattle.std.specs.Prelude.{◌≡◌, ◌⊎◌, ℕ, suc, zero, ◌+◌, min, List, [], ◌∷◌, ◌++◌, length, get_or, Option, None, Some}
+use Rattle.std.specs.Prelude.{◌≡◌, ◌≤◌, ℕ, suc, zero, ◌+◌, ◌-◌, ◌*◌, min, Option, None, Some}
+use Rattle.std.specs.Prelude.{List, [], ◌∷◌, ◌++◌, length, get_or}
 use Rattle.std.specs.Option.{option_map}
 use Rattle.dcc_wire.specs.declared.half.Half.TheVariants.{One, Zero}
 use Rattle.dcc_wire.specs.declared.seen.Seen.{Seen}
@@ -48,10 +49,10 @@ abbrev pub BeginsBody : List ℕ → ℕ → Type 0
 BeginsBody halves at = (nearest_class (get_or halves at 0) ≡ One) × (nearest_class (get_or halves (at + 1) 0) ≡ Zero)
 
 -- The half-bits `last` are the last 130 half-bits of a list, and `n + 1` half-bits of ones follow
--- them. A body of 3, 4, 5 or 6 bytes can begin that ends with the last of these ones.
+-- them. A body of three to six bytes can begin that ends with the last of these ones: a body of `m`
+-- bytes has `18 * m + 2` half-bits.
 abbrev pub CanBeginBody : List ℕ → ℕ → Type 0
-CanBeginBody last n =
-    BeginsBody last (n + 74) ⊎ (BeginsBody last (n + 56) ⊎ (BeginsBody last (n + 38) ⊎ BeginsBody last (n + 20)))
+CanBeginBody last n = (m : ℕ) × (3 ≤ m) × (m ≤ 6) × BeginsBody last (n + 128 - 18 * m)
 
 -- The half-bits `last` are the last 130 half-bits of a list, and `n + 1` half-bits of ones follow
 -- them. In the longer list the half-bits that begin the zeros before the last three bytes have the

@@ -474,15 +474,19 @@ fn ones_next(ones: u16, us: u16) -> u16
 }
 
 ghost use Rattle.std.specs.Prelude.{◌<◌, ◌≤◌, ◌+◌, ℕ, List};
+ghost use Rattle.dcc_timing.specs.Ones.{AllOnes};
 ghost use Rattle.dcc_lost.specs.Inner.{BeginsBody, CanBeginBody, CanEndFrame, rising};
+ghost use Rattle.dcc_lost.specs.Lost.{longest_frame_at_end};
 
 /// Returns a number of half-bits of ones that can follow the half-bits `last`, so that none of them
 /// ends a frame. The half-bits `last` are the last 130 half-bits of a list. Returns 0 if there are
 /// fewer.
 #[inline(always)]
 fn ones_without_end(last: &[u16]) -> usize
-    ensures quiet { (n : ℕ) → n < result → n < 19 → CanEndFrame last.now n → ⊥ }
-    ensures whole { 0 < result → length last.now ≡ 130 }
+    ensures quiet { (durations halves : List ℕ) → last.now ≡ keep_last 130 durations → AllOnes halves
+        → 0 < length halves → length halves ≤ result → longest_frame_at_end (durations ++ halves) ≡ None }
+    // The function returns less than 55 only if a frame can end with the next half-bit.
+    ensures stops { length last.now ≡ 130 → result < 55 → CanEndFrame last.now result }
     ensures few { result ≤ 55 }
 {
     if last.len() != 130 {
@@ -499,8 +503,8 @@ fn ones_without_end(last: &[u16]) -> usize
     55
 }
 
-/// Returns true if a frame can end with the last of `n + 1` half-bits of ones that follow `last`: the
-/// zeros before its last three bytes are there, and a one is before its body.
+/// Returns true if a frame can end with the last of `n + 1` half-bits of ones that follow `last`. A
+/// frame has zeros before its last three bytes, and a one before its body.
 #[inline(always)]
 fn can_end_frame(last: &[u16], n: usize) -> bool
     requires few { n < 19 }
@@ -513,17 +517,21 @@ fn can_end_frame(last: &[u16], n: usize) -> bool
         && can_begin_body(last, n)
 }
 
-/// Returns true if one of the bodies of three to six bytes can begin that end with the last of `n + 1`
-/// half-bits of ones after `last`.
+/// Returns true if a body of three to six bytes can begin that ends with the last of `n + 1` half-bits
+/// of ones after `last`.
 fn can_begin_body(last: &[u16], n: usize) -> bool
     requires few { n < 19 }
     requires whole { length last.now ≡ 130 }
     ensures { IsTrue result ↔ CanBeginBody last.now n }
 {
-    begins_body(last, n + 74)
-        || begins_body(last, n + 56)
-        || begins_body(last, n + 38)
-        || begins_body(last, n + 20)
+    let mut bytes = 3;
+    'bodies: while bytes <= 6 {
+        if begins_body(last, n + 128 - 18 * bytes) {
+            return true;
+        }
+        bytes += 1;
+    }
+    false
 }
 
 /// Returns true if the half-bit at the place `at` of `halves` has the nearest class One, and the next

@@ -14,7 +14,7 @@ use Rattle.dcc_timing.specs.declared.tally.Tally.{Tally}
 use Rattle.dcc_timing.specs.Inner.Ranges.{AllBetween, is_one_in, is_zero_in}
 use Rattle.dcc_timing.specs.PacketBits.{bit_duration, difference, is_one_pair, is_zero_pair, pairs}
 use Rattle.dcc_timing.specs.Tallies.{IsTally}
-use Rattle.dcc_timing.proofs.CoveredLemmas.{InEither, in_either, other_filter, same_filter}
+use Rattle.dcc_timing.proofs.CoveredLemmas.{InEither, all_between_map, in_either, other_filter, same_filter}
 
 -- the bits that half-bits form
 
@@ -87,17 +87,6 @@ pub count_of : (p : ℕ × ℕ → Bool) (f : ℕ × ℕ → ℕ) (bits : List (
     → count ≡ length (map f (filter p bits))
 count_of p f bits count is = is ∙ sym (length-map (filter p bits) f)
 
--- numbers of bits with a property
-all_between_of : (p : ℕ × ℕ → Bool) (f : ℕ × ℕ → ℕ) (low high : ℕ)
-    → ((x : ℕ × ℕ) → p x ≡ true → (low ≤ f x) × (f x ≤ high)) → (bits : List (ℕ × ℕ))
-    → AllBetween low high (map f (filter p bits))
-unfolding AllBetween
-all_between_of p f low high limits [] = tt
-all_between_of p f low high limits (x ∷ bits) = elim (cases_Bool (p x)) [
-  | inl holds ↦ rw holds ((limits x holds).0, (limits x holds).1, all_between_of p f low high limits bits)
-  | inr fails ↦ rw fails (all_between_of p f low high limits bits)
-]
-
 -- the tally of the bits with a property, for bits at the end of the list
 tally_of_more : (p : ℕ × ℕ → Bool) (f : ℕ × ℕ → ℕ) (tally : Tally) (bits more others : List (ℕ × ℕ))
     → filter p more ≡ others → IsTally tally (map f (filter p bits) ++ map f others)
@@ -126,14 +115,14 @@ module _ (old : Bits) (bits more : List (ℕ × ℕ)) (one zero : Span)
   each_bit = in_either (is_one_in one) (is_zero_in zero) apart more all
 
   pub ones_in : AllBetween old.differences.least old.differences.most (map difference (filter (is_one_in one) more))
-  ones_in = all_between_of (is_one_in one) difference _ _ (λ x holds.
+  ones_in = all_between_map (is_one_in one) difference _ _ (λ x holds.
       let limits = one_limits one x holds in (
         omega (arith, limits.1, limits.3, least_one),
         omega (arith, limits.2, most_one),
       )) more
 
   pub zeros_in : AllBetween old.sums.least old.sums.most (map bit_duration (filter (is_zero_in zero) more))
-  zeros_in = all_between_of (is_zero_in zero) bit_duration _ _ (λ x holds.
+  zeros_in = all_between_map (is_zero_in zero) bit_duration _ _ (λ x holds.
       let limits = zero_limits zero x holds in (
         omega (arith, limits.1, limits.3, least_zero),
         omega (arith, limits.2, most_zero),

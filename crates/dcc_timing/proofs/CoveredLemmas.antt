@@ -1,10 +1,11 @@
 -- Half-bits in the range of the ones or in the range of the zeros of a list.
 use Rattle.std.proofs.Common.{◌≡◌, ◌⊎◌, inl, inr, ℕ, ◌+◌, ◌<◌, ◌≤◌, min, max, Bool, true, false}
-use Rattle.std.proofs.Common.{List, [], ◌∷◌, ◌++◌, length, sum}
+use Rattle.std.proofs.Common.{List, [], ◌∷◌, ◌++◌, length, map, subst, sum}
 use Rattle.std.proofs.Common.{refl, sym, ap, ◌∙◌, arith, length-append, append-nil}
 use Rattle.std.specs.List.{filter, fold}
 use Rattle.std.proofs.lemmas.Bool.{cases_Bool}
 use Rattle.std.proofs.lemmas.Bool.Decides.{nat_tests}
+use Rattle.std.proofs.lemmas.List.{map-id}
 use Rattle.std.proofs.lemmas.List.Elements.{filter-append}
 use Rattle.std.proofs.lemmas.List.Sums.{fold-append, sum_by-append, sum_by-cons}
 use Rattle.dcc_timing.specs.declared.classes.Classes.{Classes}
@@ -47,14 +48,20 @@ tally_covered old new (first ∷ numbers) more some is all count total low high 
 
 -- the range of numbers with a property is in the range of the property
 
+pub all_between_map : {X : Type 0} (p : X → Bool) (f : X → ℕ) (low high : ℕ)
+    → ((x : X) → p x ≡ true → (low ≤ f x) × (f x ≤ high)) → (list : List X)
+    → AllBetween low high (map f (filter p list))
+unfolding AllBetween
+all_between_map p f low high limits [] = tt
+all_between_map p f low high limits (x ∷ list) = elim (cases_Bool (p x)) [
+  | inl holds ↦ rw holds ((limits x holds).0, (limits x holds).1, all_between_map p f low high limits list)
+  | inr fails ↦ rw fails (all_between_map p f low high limits list)
+]
+
 module _ (p : ℕ → Bool) (low high : ℕ) (limits : (x : ℕ) → p x ≡ true → (low ≤ x) × (x ≤ high)) where
   pub all_between : (numbers : List ℕ) → AllBetween low high (filter p numbers)
-  unfolding AllBetween
-  all_between [] = tt
-  all_between (x ∷ numbers) = elim (cases_Bool (p x)) [
-    | inl holds ↦ rw holds ((limits x holds).0, (limits x holds).1, all_between numbers)
-    | inr fails ↦ rw fails (all_between numbers)
-  ]
+  all_between numbers =
+      subst (AllBetween low high) (map-id (filter p numbers)) (all_between_map p (λ x. x) low high limits numbers)
 
   least_above : (first : ℕ) (numbers : List ℕ) → low ≤ first → AllBetween low high numbers
       → low ≤ fold min first numbers

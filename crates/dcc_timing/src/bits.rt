@@ -33,8 +33,8 @@ impl Bits {
         }
     }
 
-    /// Adds the bits that the half-bits `halves` form, with two half-bits for each bit. Has the contract
-    /// of `add`. On a processor with vectors this function is faster, on a microcontroller slower.
+    /// Adds the bits that the half-bits `halves` form, with two half-bits for each bit. `add_at_once`
+    /// has the contract of `add`. It is faster on a processor with vectors, and slower on a Cortex-M.
     #[inline(never)]
     pub(crate) fn add_at_once(&mut self, halves: &[u16])
         requires { bits_count self.old + length halves.now < 2 ^ 40 }

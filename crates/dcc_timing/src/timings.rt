@@ -41,9 +41,10 @@ pub struct Timings {
 
 impl Timings {
     ghost use Rattle.std.specs.Prelude.{◌≡◌, ◌<◌, ◌+◌, ◌^◌, ℕ, List, [], ◌++◌, length, replicate, sum};
-    ghost use Rattle.std.specs.Prelude.{◌∷◌, ◌≢◌, ◌≤◌, ◌↔◌, IsTrue, true, false, take};
+    ghost use Rattle.std.specs.Prelude.{◌∷◌, ◌≢◌, ◌≤◌, ◌↔◌, IsTrue, true, false, get_or, take};
     ghost use Rattle.dcc_wire.specs.Passes.{PassesBody};
     ghost use Rattle.dcc_wire.specs.Framing.{Hunting, StandsFor, is_hunting, report_at, rest, seen};
+    ghost use Rattle.dcc_wire.specs.declared.half.Half.TheVariants.{One};
     ghost use Rattle.dcc_wire.specs.Half.{class_of};
     ghost use Rattle.dcc_wire.specs.Runs.{still_ones};
     ghost use Rattle.dcc_timing.specs.Numbers.{keep_last};
@@ -155,9 +156,10 @@ impl Timings {
         count
     }
 
-    /// Appends half-bits of the class One at the beginning of `halves`, while no body is unfinished.
-    /// Returns the number of these half-bits. Returns 0 and changes nothing if a body is unfinished.
-    /// The longer list must have fewer than 2^32 half-bits.
+    /// Appends the half-bits of the class One at the beginning of `halves`, up to the first half-bit
+    /// of another class, if no body is unfinished. Returns the number of these half-bits. Returns 0
+    /// and changes nothing if a body is unfinished. The longer list must have fewer than 2^32
+    /// half-bits.
     pub fn pass_ones(&mut self, halves: &[u16]) -> usize
         requires { self.old.halves + length halves.now < 2 ^ 32 }
         // Some list has the old statistics.
@@ -167,6 +169,9 @@ impl Timings {
         ensures measures { (list : List ℕ) → Measures self.old list
             → Measures self.new (list ++ take result halves.now) }
         ensures ones { AllOnes (take result halves.now) }
+        // If no body is unfinished, the first half-bit that is not appended has another class.
+        ensures stops { is_hunting (kept_rest self.old.framer) ≡ true → result < length halves.now
+            → class_of (get_or halves.now result 0) ≢ One }
         ensures hunts { result ≢ 0 → is_hunting (kept_rest self.old.framer) ≡ true }
         ensures left { result ≡ 0 → self.new ≡ self.old }
         ensures count { self.new.halves ≡ self.old.halves + result }
@@ -175,7 +180,7 @@ impl Timings {
         if !self.framer.is_hunting() {
             return 0;
         }
-        let ones = pass_ones(&mut self.framer, halves);
+        let ones = take_ones(&mut self.framer, halves);
         if ones == 0 {
             return 0;
         }
@@ -192,7 +197,7 @@ impl Timings {
     /// Appends a half-bit of `us` microseconds that has an outcome: a half-bit for which
     /// [`pass`](Self::pass) returned false. Returns this outcome. The longer list must have fewer than
     /// 2^32 half-bits. The parameter `at_once` changes only the speed: true is faster on a processor
-    /// with vectors, and false is faster on a microcontroller.
+    /// with vectors, and false is faster on a Cortex-M.
     #[inline(always)]
     pub fn push_shown(&mut self, us: u16, at_once: bool) -> Seen
         requires room { self.old.halves + 1 < 2 ^ 32 }
@@ -424,18 +429,23 @@ fn sum_of(halves: &[u16]) -> u64
     sum
 }
 
-ghost use Rattle.std.specs.Prelude.{take};
+ghost use Rattle.std.specs.Prelude.{◌≢◌, get_or, take, true};
+ghost use Rattle.dcc_wire.specs.declared.half.Half.TheVariants.{One};
+ghost use Rattle.dcc_wire.specs.Framing.{is_hunting};
+ghost use Rattle.dcc_wire.specs.Half.{class_of};
 ghost use Rattle.dcc_timing.specs.Ones.{AllOnes};
 
 /// Takes the half-bits of the class One at the beginning of `halves`, as calls of `KeptFramer::pass`
-/// do. Returns their number.
+/// do. Returns their number. The framer must have no unfinished body.
 #[inline(always)]
-fn pass_ones(framer: &mut KeptFramer, halves: &[u16]) -> usize
+fn take_ones(framer: &mut KeptFramer, halves: &[u16]) -> usize
+    requires { is_hunting (kept_rest framer.old) ≡ true }
     ensures stands { (durations : List ℕ) → StandsFor (kept_rest framer.old) durations
         → StandsFor (kept_rest framer.new) (durations ++ take result halves.now) }
     ensures sees { (durations : List ℕ) → StandsFor (kept_rest framer.old) durations
         → seen (durations ++ take result halves.now) ≡ seen durations }
     ensures ones { AllOnes (take result halves.now) }
+    ensures stops { result < length halves.now → class_of (get_or halves.now result 0) ≢ One }
     ensures left { result ≡ 0 → framer.new ≡ framer.old }
     ensures within { result ≤ length halves.now }
 {

@@ -1,5 +1,6 @@
-use Rattle.std.proofs.Common.{◌≡◌, inl, inr, arith}
+use Rattle.std.proofs.Common.{◌≡◌, ◌-◌, inl, inr, arith, length}
 use Rattle.std.proofs.lemmas.Bool.{cases_lt}
+use Rattle.dcc_lost.proofs.OneFigures.{no_frame_ends}
 use Rattle.dcc_lost.proofs.figures.ones_without_end.Goals as goal
 
 pub ones-init : goal.ones-init
@@ -16,6 +17,12 @@ ones-preserved c = record {
   ];
 }
 
+pub returns-then-can_end_frame-clause-quiet : goal.returns-then-can_end_frame-clause-quiet
+returns-then-can_end_frame-clause-quiet c = λ durations halves is all some few.
+    no_frame_ends durations halves all (length halves - 1) (omega (arith, some)) (rw is at c.if-last-ne130.false)
+    (λ below ends. c.ones.invariant.quiet (length halves - 1) (omega (arith, some, few)) (rw is ends))
+
 pub returns-clause-quiet : goal.returns-clause-quiet
-returns-clause-quiet c = λ n few below ends.
-    c.ones.invariant.quiet n (omega (arith, below, c.ones-test.false)) ends
+returns-clause-quiet c = λ durations halves is all some few.
+    no_frame_ends durations halves all (length halves - 1) (omega (arith, some)) (rw is at c.if-last-ne130.false)
+    (λ below ends. c.ones.invariant.quiet (length halves - 1) (omega (arith, below, c.ones-test.false)) (rw is ends))

@@ -1,13 +1,14 @@
-use Rattle.std.proofs.Common.{◌≡◌, ◌≢◌, ◌≤◌, List, ℕ, ◌++◌, ◌∙◌, ap, append-nil, arith, length, subst, sym, take}
+use Rattle.std.proofs.Common.{◌≡◌, ◌≢◌, ◌≤◌, List, ℕ, ◌+◌, ◌++◌, ◌∙◌, ap, append-nil, arith, length, subst, sym, take}
 use Rattle.std.proofs.Math.Logic.{∥∥₁_map}
 use Rattle.std.proofs.lemmas.List.{length-take, length-take-le}
 use Rattle.dcc_wire.specs.Framing.{StandsFor, is_hunting}
 use Rattle.dcc_timing.specs.Numbers.{keep_last}
+use Rattle.dcc_timing.specs.Ones.{AllOnes}
 use Rattle.dcc_timing.specs.Recent.{recent_numbers}
 use Rattle.dcc_timing.proofs.RecentLemmas.{keep_last_keep}
 use Rattle.dcc_lost.specs.Figures.{AreTrackFigures}
 use Rattle.dcc_lost.specs.MeasuresTrack.{MeasuresTrack}
-use Rattle.dcc_lost.proofs.OneFigures.{figures_ones, inside_most, taken_of_most}
+use Rattle.dcc_lost.proofs.OneFigures.{figures_ones, inside_most, ones_first, taken_of_most}
 use Rattle.dcc_lost.proofs.figures.TrackFigures.pass_ones.Goals.{After-saturating_add-self-2}
 use Rattle.dcc_lost.proofs.figures.TrackFigures.pass_ones.Goals as goal
 
@@ -21,6 +22,7 @@ next c durations are =
     let count = c.pass_ones-count.result in
     let passed = c.pass_ones-count.ensures in
     let same = taken_of_most halves count c.min-most.result passed.within in
+    let all : AllOnes (take count halves) = rw same at passed.ones in
     let some : count ≢ 0 = λ none. absurd (omega (arith, none, c.if-count-eq0.false)) in
     let last : keep_last 130 durations ≡ c.last.result.now =
     sym (keep_last_keep 130 130 durations (omega arith))
@@ -31,10 +33,12 @@ next c durations are =
     (arith, passed.within, length-take c.min-most.result halves, c.min-most.ensures) in
     record {
       measured = rw same at (passed.measures durations are.measured);
-      lost = figures_ones durations (take count halves) (rw same at passed.ones)
-          (rw last (c.ones_without_end.ensures.whole (omega (arith, most, c.if-count-eq0.false))))
-          (λ n few below ends.
-          c.ones_without_end.ensures.quiet n (omega (arith, few, long, most)) below (rw last at ends)) _ _ _
+      lost = figures_ones durations (take count halves) all
+          (λ n few.
+          c.ones_without_end.ensures.quiet durations (take (n + 1) (take count halves)) (sym last)
+          (ones_first (take count halves) (n + 1) all)
+          (omega (arith, length-take-le (n + 1) (take count halves) (omega (arith, few))))
+          (omega (arith, length-take-le (n + 1) (take count halves) (omega (arith, few)), few, long, most))) _ _ _
           (ap is_hunting (sym are.measured.framer) ∙ passed.hunts some) _ _ _ _ are.lost
           (rw long (omega (arith, c.saturating_add-self.ensures)))
           (rw long (omega (arith, c.saturating_add-self-2.ensures)))

@@ -17,12 +17,12 @@ use Rattle.dcc_timing.proofs.timings.Timings.pass_ones.Goals as goal
 -- the list with these half-bits at its end is measured, for each list that was
 measured : (c : After-count_halves) (list : List ℕ) → Measures c.args.self.now list
     → AreMeasured c.count_halves.new.halves c.count_halves.new.time
-    c.count_halves.new.classes c.args.self.now.outcomes c.args.self.now.packets (kept_rest c.pass_ones-ones.new.framer)
+    c.count_halves.new.classes c.args.self.now.outcomes c.args.self.now.packets (kept_rest c.take_ones-ones.new.framer)
     (recent_numbers c.count_halves.new.recent)
-    (list ++ take c.pass_ones-ones.result c.args.halves.now)
+    (list ++ take c.take_ones-ones.result c.args.halves.now)
 measured c list are =
-    let taken = take c.pass_ones-ones.result c.args.halves.now in
-    let passes = c.pass_ones-ones.ensures in
+    let taken = take c.take_ones-ones.result c.args.halves.now in
+    let passes = c.take_ones-ones.ensures in
     let quiet = passes.sees list are.framer in
     let counted = c.count_halves.ensures in
     record {
@@ -44,13 +44,13 @@ invariant_of-self-clause-history c =
       list.0,
       subst (λ framer. AreMeasured c.args.self.now.halves c.args.self.now.time c.args.self.now.classes
           c.args.self.now.outcomes c.args.self.now.packets (kept_rest framer) (recent_numbers c.args.self.now.recent)
-          list.0) (sym (c.pass_ones-ones.ensures.left c.if-ones-eq0.true)) list.1,
+          list.0) (sym (c.take_ones-ones.ensures.left c.if-ones-eq0.true)) list.1,
     ))
 
 pub invariant_of-self-2-clause-history : goal.invariant_of-self-2-clause-history
 invariant_of-self-2-clause-history c =
     ∥∥₁_map c.args.self.now.history (λ list. (
-      list.0 ++ take c.pass_ones-ones.result c.args.halves.now,
+      list.0 ++ take c.take_ones-ones.result c.args.halves.now,
       measured (goal.at.invariant_of-self-2-clause-history c).After-count_halves list.0 list.1,
     ))
 

@@ -1,8 +1,8 @@
-use Rattle.std.proofs.Common.{◌≡◌, ◌≤◌, ◌-◌, ◌++◌, ℕ, List, length, take}
-use Rattle.dcc_wire.specs.Framing.{StandsFor, seen}
+use Rattle.std.proofs.Common.{◌≡◌, ◌≤◌, ◌-◌, ◌++◌, ℕ, List, length, take, true}
+use Rattle.dcc_wire.specs.Framing.{StandsFor, is_hunting, seen}
 use Rattle.dcc_wire.specs.Kept.{kept_rest}
 use Rattle.dcc_timing.specs.Ones.{AllOnes}
-use Rattle.dcc_timing.proofs.timings.pass_ones.Given as goal
+use Rattle.dcc_timing.proofs.timings.take_ones.Given as goal
 
 abbrev pub invariant-ones : goal.invariant-ones
 invariant-ones l = record {
@@ -11,6 +11,7 @@ invariant-ones l = record {
   sees : (durations : List ℕ) → StandsFor (kept_rest l.initial.framer) durations
       → seen (durations ++ take l.at l.halves) ≡ seen durations;
   ones : AllOnes (take l.at l.halves);
+  hunts : is_hunting (kept_rest l.framer) ≡ true;
   left : l.at ≡ 0 → l.framer ≡ l.initial.framer;
   inside : l.at ≤ length l.halves;
 }
