@@ -1,14 +1,17 @@
 //! A packet that is stored as its frame.
 
-ghost use Rattle.std.specs.Prelude.{◌≡◌, ◌⊎◌, [], IsTrue, ◌↔◌};
+ghost use Rattle.std.specs.Prelude.{◌≡◌, ◌≤◌, ◌⊎◌, [], IsTrue, ◌↔◌, length};
 ghost use Rattle.dcc_wire.specs.Frames.{IsFrame};
+ghost use Rattle.dcc_regs.specs.Heard as heard;
+ghost use Rattle.dcc_regs.specs.Safety as safety;
+ghost use Rattle.dcc_station.specs.Sending as sending;
 ghost use Rattle.dcc_c.specs.Frames.{bytes_of, frame_numbers};
 ghost use Rattle.dcc_station.specs.Sending.{Displaces};
 ghost use Rattle.dcc_c.specs.KeptPackets.{kept_bytes, KeptBy, KeptBy-prop};
 
 use crate::frame::DccFrame;
-use dcc_packet::{Packet, read_loco};
-use dcc_station::{displaces_by_registers, displaces_loco};
+use dcc_packet::{Address, Packet, read_loco};
+use dcc_station::{can_move, displaces_by_registers, displaces_loco};
 use dcc_wire::Frame;
 use std::marker::Model;
 
@@ -60,6 +63,40 @@ impl KeptPacket {
         }
     }
 
+    /// Returns true if the stored packet is sent to the address `to`. The function reads at most two
+    /// bytes of the frame.
+    pub fn has_address(&self, to: &Address) -> bool
+        ensures { result ≡ sending.has_address to.now self.now }
+    {
+        match self.address() {
+            Some(own) => own.is(to),
+            None => false,
+        }
+    }
+
+    /// Returns the address of locomotive decoders to which the stored packet is sent. Returns `None`
+    /// if the packet is not sent to locomotive decoders.
+    fn address(&self) -> Option<Address>
+        ensures { result ≡ heard.address_of self.now }
+    {
+        if self.frame.len == 0 {
+            return None;
+        }
+        address_in(self.frame.as_slice())
+    }
+
+    /// Returns true if the stored packet sets the speed of a locomotive to a step.
+    pub fn can_move(&self) -> bool
+        ensures { result ≡ safety.can_move self.now }
+    {
+        if let Some((_error_byte, body)) = self.frame.as_slice().split_last() {
+            if let Some((to, what)) = read_loco(body) {
+                return can_move(&Packet::Loco { to, what });
+            }
+        }
+        false
+    }
+
     /// Returns true if a command displaces the stored entry. If the entry is a packet to
     /// locomotives, the function compares instructions and creates no frame.
     pub fn is_displaced_by(&self, command: &Packet) -> bool
@@ -81,6 +118,22 @@ impl KeptPacket {
         ensures { IsTrue result ↔ Displaces command.now self.now }
     {
         displaces_by_registers(command, &self.packet())
+    }
+}
+
+/// Returns the address of locomotive decoders at the beginning of a frame. Returns `None` if the
+/// frame begins with no such address.
+fn address_in(frame: &[u8]) -> Option<Address>
+    requires { 2 ≤ length frame.now }
+    ensures { result ≡ heard.frame_address frame.now }
+{
+    match frame[0] {
+        0 => Some(Address::Broadcast),
+        first @ 1..=127 => Address::short(first).ok(),
+        first @ 192..=231 => {
+            Address::long((u16::from(first) - 192) * 256 + u16::from(frame[1])).ok()
+        }
+        _ => None,
     }
 }
 

@@ -4,7 +4,7 @@ ghost use Rattle.std.specs.Prelude.{◌≡◌, ◌≤◌, ◌<◌, length};
 ghost use Rattle.circular_buffer.specs.Places.{Wraps};
 
 use crate::kept_packet::KeptPacket;
-use dcc_packet::Packet;
+use dcc_packet::{Address, Packet};
 use dcc_station::PacketRing;
 
 /// A ring of at most 128 packets, each stored as its frame. In the ring, the first place follows
@@ -72,6 +72,14 @@ impl PacketRing for DccRing {
             return None;
         }
         Some(self.packets[usize::from(self.start)].packet())
+    }
+
+    fn front_has_address(&self, address: &Address) -> bool {
+        self.len > 0 && self.packets[usize::from(self.start)].has_address(address)
+    }
+
+    fn front_can_move(&self) -> bool {
+        self.len > 0 && self.packets[usize::from(self.start)].can_move()
     }
 
     fn pop_front(&mut self) {

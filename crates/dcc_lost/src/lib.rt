@@ -16,8 +16,6 @@ mod joined;
 pub mod laws;
 mod nearest;
 mod rings;
-#[cfg(test)]
-mod tests;
 
 pub use causes::{LostPacket, OffLimits, ShortPreamble};
 pub use figures::TrackFigures;

@@ -1,11 +1,14 @@
-//! Tests of half-bits, packets, readers and writers, with worked examples and with noisy tracks, for
-//! the public functions of `dcc_wire`, `dcc_packet` and `dcc_io`. This crate has no public items.
+//! Tests of half-bits, packets, lost packets, readers and writers, with worked examples and with
+//! noisy tracks, for the public functions of `dcc_wire`, `dcc_packet`, `dcc_lost` and `dcc_io`. This
+//! crate has no public items.
 #![tactic(auto)]
 
 #[cfg(test)]
 mod checks;
 #[cfg(test)]
 mod io_counted_tests;
+#[cfg(test)]
+mod lost_tests;
 #[cfg(test)]
 mod noise;
 #[cfg(test)]

@@ -106,3 +106,10 @@ module _ {X : Type 0} where
         let is : Some (get_or places at default) ≡ Some x =
         sym (slice_get-get_or places at default (omega arith)) ∙ sym some
         ∙ sym (slice_get-take len (turned start places) i few) ∙ (rw (← view) at found) in cc
+
+    -- the front one
+    pub ring_front : (default : X) → 0 < length b.items → slice_get b.items 0 ≡ Some (get_or places start default)
+    ring_front default some =
+        let here : Wraps start 0 cap start = (inv.0, inl (omega arith)) in
+        let is = slice_get-get_or b.items 0 default some in
+        is ∙ ap Some (sym (ring_get default some here is))

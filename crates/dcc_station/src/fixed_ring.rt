@@ -4,9 +4,11 @@ ghost use Rattle.std.specs.Prelude.{◌≡◌, ◌≤◌, ◌<◌, ◌∷◌, �
 ghost use Rattle.circular_buffer.specs.Buffer.{buffer};
 ghost use Rattle.circular_buffer.specs.Places.{Wraps};
 
+use crate::commands::can_move;
 use crate::entries::displaces;
+use crate::forget::has_address;
 use crate::ring::PacketRing;
-use dcc_packet::Packet;
+use dcc_packet::{Address, Packet};
 use std::marker::Model;
 
 /// A ring of at most `CAP` packets in an array. A ring does not allocate.
@@ -108,6 +110,14 @@ impl<const CAP: usize> PacketRing for FixedRing<CAP> {
             return None;
         }
         self.packets.get(self.start).copied()
+    }
+
+    fn front_has_address(&self, address: &Address) -> bool {
+        self.len > 0 && has_address(&self.packets[self.start], address)
+    }
+
+    fn front_can_move(&self) -> bool {
+        self.len > 0 && can_move(&self.packets[self.start])
     }
 
     fn pop_front(&mut self) {

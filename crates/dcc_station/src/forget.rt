@@ -1,6 +1,6 @@
 //! Functions that remove the entries of one address.
 
-ghost use Rattle.std.specs.Prelude.{◌≡◌, take, drop, ◌++◌, [], if◌then◌else◌};
+ghost use Rattle.std.specs.Prelude.{◌≡◌, take, drop, ◌++◌};
 ghost use Rattle.circular_buffer.specs.Buffer.{buffer};
 ghost use Rattle.dcc_station.specs.Sending as sending;
 ghost use Rattle.dcc_station.specs.Sending.{without_address};
@@ -26,26 +26,15 @@ fn pass_first<R: PacketRing>(entries: &mut R, address: &Address)
         (drop 1 (R.buffer entries.old).items ++ without_address address.now (take 1 (R.buffer entries.old).items))
         (R.buffer entries.old).capacity }
 {
-    if starts_with_address(entries, address) {
+    if entries.front_has_address(address) {
         entries.pop_front();
     } else {
         entries.rotate();
     }
 }
 
-/// Returns true if the first entry has the address `address`.
-fn starts_with_address<R: PacketRing>(entries: &R, address: &Address) -> bool
-    ensures kept { without_address address.now (take 1 (R.buffer entries.now).items)
-        ≡ (if result then [] else take 1 (R.buffer entries.now).items) }
-{
-    match entries.front() {
-        Some(entry) => has_address(&entry, address),
-        None => false,
-    }
-}
-
 /// Returns true if the packet is sent to the address `address`.
-fn has_address(packet: &Packet, address: &Address) -> bool
+pub(crate) fn has_address(packet: &Packet, address: &Address) -> bool
     ensures { result ≡ sending.has_address address.now packet.now }
 {
     match address_of(packet) {

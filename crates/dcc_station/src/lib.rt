@@ -14,6 +14,7 @@ mod ring;
 mod station;
 mod stop;
 
+pub use commands::can_move;
 pub use entries::{displaces, displaces_by_registers, displaces_loco};
 pub use fault::{Refused, StationFault};
 pub use fixed_ring::FixedRing;

@@ -1,15 +1,20 @@
 //! The trait of rings of packets.
 
 ghost use Rattle.std.specs.Prelude.{◌≡◌, ◌≤◌, ◌<◌, ◌∷◌, ◌++◌, [], length, take, drop, set, slice_get, Some, IsTrue};
-ghost use Rattle.std.specs.Prelude.{◌↔◌};
+ghost use Rattle.std.specs.Prelude.{◌↔◌, false};
+ghost use Rattle.std.specs.Option.{option_map_or};
 ghost use Rattle.dcc_packet.specs.declared.packet.Packet.{Packet};
 ghost use Rattle.circular_buffer.specs.Buffer.{Buffer, keep_last};
 ghost use Rattle.circular_buffer.specs.Buffer as rings;
+ghost use Rattle.dcc_regs.specs.Safety as safety;
+ghost use Rattle.dcc_station.specs.Sending as sending;
 ghost use Rattle.dcc_station.specs.Sending.{Displaces};
 
+use crate::commands::can_move;
 use crate::entries::displaces;
+use crate::forget::has_address;
 use circular_buffer::HeapCircularBuffer;
-use dcc_packet::Packet;
+use dcc_packet::{Address, Packet};
 
 /// A list of packets with a capacity. Packets are appended at the end and removed from the front. A
 /// station has two rings: one for the queue of commands, and one for the entries.
@@ -30,6 +35,17 @@ pub trait PacketRing: Drop {
     /// Returns the first packet. Returns `None` if the ring is empty.
     fn front(&self) -> Option<Packet>
         ensures { result ≡ slice_get (buffer self.now).items 0 };
+
+    /// Returns true if the first packet is sent to the address `address`. Returns false if the ring is
+    /// empty.
+    fn front_has_address(&self, address: &Address) -> bool
+        ensures { result
+            ≡ option_map_or (sending.has_address address.now) (slice_get (buffer self.now).items 0) false };
+
+    /// Returns true if the first packet sets the speed of a locomotive to a step. Returns false if the
+    /// ring is empty.
+    fn front_can_move(&self) -> bool
+        ensures { result ≡ option_map_or safety.can_move (slice_get (buffer self.now).items 0) false };
 
     /// Removes the first packet. An empty ring does not change.
     fn pop_front(&mut self)
@@ -77,6 +93,20 @@ impl PacketRing for HeapCircularBuffer<Packet> {
 
     fn front(&self) -> Option<Packet> {
         HeapCircularBuffer::front(self).copied()
+    }
+
+    fn front_has_address(&self, address: &Address) -> bool {
+        match HeapCircularBuffer::front(self) {
+            Some(packet) => has_address(packet, address),
+            None => false,
+        }
+    }
+
+    fn front_can_move(&self) -> bool {
+        match HeapCircularBuffer::front(self) {
+            Some(packet) => can_move(packet),
+            None => false,
+        }
     }
 
     fn pop_front(&mut self) {

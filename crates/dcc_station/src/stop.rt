@@ -1,13 +1,12 @@
 //! Functions that stop all locomotives.
 
-ghost use Rattle.std.specs.Prelude.{◌≡◌, ◌≤◌, ◌++◌, ℕ, [], length, filter, take, drop, if◌then◌else◌};
+ghost use Rattle.std.specs.Prelude.{◌≡◌, ◌≤◌, ◌++◌, ℕ, length, filter, take, drop};
 ghost use Rattle.circular_buffer.specs.Buffer.{Buffer, buffer};
 ghost use Rattle.dcc_regs.specs.Safety as safety;
 ghost use Rattle.dcc_station.specs.Rings.{sending_over};
 ghost use Rattle.dcc_station.specs.Sending as sending;
 ghost use Rattle.dcc_station.specs.Sending.{not_withdrawn, stopped};
 
-use crate::commands::can_move;
 use crate::ring::PacketRing;
 use dcc_packet::{Address, Packet, SpeedBits28, What};
 
@@ -66,20 +65,9 @@ fn pass_first<Q: PacketRing>(waiting: &mut Q)
         (drop 1 (Q.buffer waiting.old).items ++ not_withdrawn (take 1 (Q.buffer waiting.old).items))
         (Q.buffer waiting.old).capacity }
 {
-    if starts_with_step(waiting) {
+    if waiting.front_can_move() {
         waiting.pop_front();
     } else {
         waiting.rotate();
-    }
-}
-
-/// Returns true if the first command sets the speed of a locomotive to a step.
-fn starts_with_step<Q: PacketRing>(waiting: &Q) -> bool
-    ensures kept { not_withdrawn (take 1 (Q.buffer waiting.now).items)
-        ≡ (if result then [] else take 1 (Q.buffer waiting.now).items) }
-{
-    match waiting.front() {
-        Some(command) => can_move(&command),
-        None => false,
     }
 }

@@ -1,6 +1,6 @@
-use Rattle.std.proofs.Common.{◌≡◌, ◌<◌, ◌+◌, ◌++◌, ◌∷◌, [], ℕ, List, length, take, slice_index_or, subst, sym, IsTrue}
-use Rattle.std.proofs.Common.{◌∙◌, ap, arith, append_assoc, append-nil, length-append}
-use Rattle.std.proofs.lemmas.List.{length-take-le, take_all, take_more}
+use Rattle.std.proofs.Common.{◌++◌, take, subst, sym, IsTrue}
+use Rattle.std.proofs.Common.{arith, append-nil}
+use Rattle.std.proofs.lemmas.List.{take_all}
 use Rattle.dcc_lost.specs.MeasuresTrack.{MeasuresTrack}
 use Rattle.dcc_c.proofs.ArrayLemmas.{length_before, one_more}
 use Rattle.dcc_c.proofs.meter.dcc_meter_push_many.Goals as goal

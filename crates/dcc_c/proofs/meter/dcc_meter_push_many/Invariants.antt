@@ -1,4 +1,4 @@
-use Rattle.std.proofs.Common.{◌≡◌, ◌+◌, ◌<◌, ◌≤◌, ◌-◌, ◌^◌, ◌++◌, ℕ, List, length, take}
+use Rattle.std.proofs.Common.{◌+◌, ◌<◌, ◌≤◌, ◌-◌, ◌++◌, ℕ, List, length, take}
 use Rattle.dcc_lost.specs.MeasuresTrack.{MeasuresTrack}
 use Rattle.dcc_c.proofs.meter.dcc_meter_push_many.Given as goal
 

@@ -1,6 +1,5 @@
-use Rattle.std.proofs.Common.{◌≡◌, ◌≢◌, ◌<◌, ◌+◌, ◌-◌, ◌++◌, ◌∷◌, [], ℕ, List, length, take, slice_index_or, subst, sym}
-use Rattle.std.proofs.Common.{IsTrue, refl, ◌∙◌, ap, arith, append_assoc, append-nil, length-append}
-use Rattle.std.proofs.lemmas.List.{take_more, length-take-le}
+use Rattle.std.proofs.Common.{◌++◌, ℕ, List, take, subst, sym}
+use Rattle.std.proofs.Common.{IsTrue, refl, ◌∙◌, ap, arith, append-nil}
 use Rattle.dcc_wire.specs.Framing.{StandsFor, seen, report_at}
 use Rattle.dcc_wire.specs.Kept.{kept_rest}
 use Rattle.dcc_c.proofs.ArrayLemmas.{last_place, one_more}

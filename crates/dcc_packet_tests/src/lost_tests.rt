@@ -1,6 +1,7 @@
-//! Tests of worked examples, of runs against their single half-bits, of long runs, and of figures.
+//! Tests of packets that a decoder does not hear: worked examples, runs against their single
+//! half-bits, long runs, and figures.
 
-use crate::{LostFinder, LostPacket, OffLimits, ShortPreamble, TrackFigures};
+use dcc_lost::{LostFinder, LostPacket, OffLimits, ShortPreamble, TrackFigures};
 use dcc_wire::Frame;
 use std::process::Abort;
 use std::test::Fail;
