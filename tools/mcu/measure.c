@@ -180,9 +180,10 @@ static void command_kind(int kind, int address) {
     bytes[len++] = sum;
     if (dcc_station_command(&station, bytes, len) > 3) exit(3);
 }
+static bool is_to_all;
 static void make_full(void) {
-    uint32_t kind = at / KINDS / 2;
-    if (at % (KINDS * 2) == 0) {
+    uint32_t kind = at / KINDS;
+    if (at % KINDS == 0) {
         new_station();
         for (int i = 0; i < 128; i++) {
             if (kind < ENTRY_KINDS) command_kind((int)kind, 1000 + i);
@@ -193,7 +194,7 @@ static void make_full(void) {
         if (dcc_station_entries(&full) != 128) exit(4);
     }
     station = full;
-    command_kind((int)(at / 2 % KINDS), at % 2 ? -1 : kind < ENTRY_KINDS ? 1127 : 1009);
+    command_kind((int)(at % KINDS), is_to_all ? -1 : kind < ENTRY_KINDS ? 1127 : 1009);
 }
 
 /* Stations with 128 entries: each to a different locomotive, or of all kinds that one locomotive can have. */
@@ -370,7 +371,9 @@ int main(void) {
     measure_behind("dcc_station_next:first", command_station, next_packet, frame_count);
     while (dcc_station_waiting(&station) > 0) next_packet();
     measure("dcc_station_next", next_packet, 1000);
-    measure_behind("dcc_station_next:most", make_full, next_packet, KINDS * 2 * (ENTRY_KINDS + 1));
+    measure_behind("dcc_station_next:one", make_full, next_packet, KINDS * (ENTRY_KINDS + 1));
+    is_to_all = true;
+    measure_behind("dcc_station_next:all", make_full, next_packet, KINDS * (ENTRY_KINDS + 1));
     make_wait();
     measure_behind("dcc_station_stop", wait_again, stop_station, 100);
     measure("dcc_station_waiting", tell_waiting, 100);

@@ -1,13 +1,18 @@
 -- A packet that is stored as the bytes of its frame.
-use Rattle.std.specs.Prelude.{◌≡◌, ℕ, List, [], ◌∷◌, ◌++◌, length, refl}
+use Rattle.std.specs.Prelude.{◌≡◌, ℕ, List, [], ◌∷◌, ◌++◌, length, refl, Bool, false, not, ◌&&◌}
+use Rattle.std.specs.Option.{option_map_or}
 use Rattle.std.specs.Coded.{coded_list, coded_ℕ, Coded-set}
 use Rattle.std.proofs.Common.{◌∙◌, sym, ap, subst, arith}
+use Rattle.dcc_packet.specs.Address.{same_address}
+use Rattle.dcc_packet.specs.declared.address.Address.{Address}
+use Rattle.dcc_packet.specs.declared.address.Address.TheVariants.{Broadcast}
 use Rattle.dcc_packet.specs.declared.packet.Packet.{Packet}
 use Rattle.dcc_packet.specs.declared.packet.Packet.TheVariants.{Idle, Loco, Accessory, Signal, Other}
 use Rattle.dcc_packet.specs.Rows.{address_bytes, instruction_bytes, accessory_bytes, signal_bytes}
 use Rattle.dcc_packet.specs.Spelling.{spelling}
 use Rattle.dcc_wire.specs.Frames.{with_error_byte}
 use Rattle.dcc_packet.proofs.OneSpelling.{one_packet}
+use Rattle.dcc_regs.specs.Heard.{address_of}
 
 -- the bytes that store `packet`. The bytes of the idle packet are an empty list, and the bytes of
 -- any other packet are its frame. So a structure of zeros is an idle packet.
@@ -47,3 +52,9 @@ same_pair bytes p q e =
 -- `bytes` store at most one packet
 pub KeptBy-prop : (bytes : List ℕ) → IsProp (KeptBy bytes)
 KeptBy-prop bytes a b = same_pair bytes a.0 b.0 (one_kept a.0 b.0 (a.1 ∙ sym b.1)) a.1 b.1
+
+-- true if `to` is the address of one locomotive and the packet `entry` is sent to another
+abbrev pub is_for_another : Address → Packet → Bool
+is_for_another Broadcast entry = false
+is_for_another to entry =
+    option_map_or (λ own. not (same_address own Broadcast) && not (same_address own to)) (address_of entry) false

@@ -1,16 +1,17 @@
 //! A packet that is stored as its frame.
 
-ghost use Rattle.std.specs.Prelude.{◌≡◌, ◌≤◌, ◌⊎◌, [], IsTrue, ◌↔◌, length};
+ghost use Rattle.std.specs.Prelude.{◌≡◌, ◌⊎◌, ◌&&◌, ◌||◌, nat_le, [], IsTrue, ◌↔◌};
 ghost use Rattle.dcc_wire.specs.Frames.{IsFrame};
 ghost use Rattle.dcc_regs.specs.Heard as heard;
 ghost use Rattle.dcc_regs.specs.Safety as safety;
 ghost use Rattle.dcc_station.specs.Sending as sending;
 ghost use Rattle.dcc_c.specs.Frames.{bytes_of, frame_numbers};
 ghost use Rattle.dcc_station.specs.Sending.{Displaces};
-ghost use Rattle.dcc_c.specs.KeptPackets.{kept_bytes, KeptBy, KeptBy-prop};
+ghost use Rattle.dcc_c.specs.KeptPackets.{kept_bytes, KeptBy, KeptBy-prop, is_for_another};
 
 use crate::frame::DccFrame;
 use dcc_packet::{Address, Packet, read_loco};
+use dcc_regs::frame_address;
 use dcc_station::{can_move, displaces_by_registers, displaces_loco};
 use dcc_wire::Frame;
 use std::marker::Model;
@@ -82,7 +83,7 @@ impl KeptPacket {
         if self.frame.len == 0 {
             return None;
         }
-        address_in(self.frame.as_slice())
+        frame_address(self.frame.as_slice())
     }
 
     /// Returns true if the stored packet sets the speed of a locomotive to a step.
@@ -97,9 +98,24 @@ impl KeptPacket {
         false
     }
 
-    /// Returns true if a command displaces the stored entry. If the entry is a packet to
-    /// locomotives, the function compares instructions and creates no frame.
+    /// Returns true if a command displaces the stored entry. If the entry and the command are sent to
+    /// two different locomotives, the function compares only their addresses.
     pub fn is_displaced_by(&self, command: &Packet) -> bool
+        ensures { IsTrue result ↔ Displaces command.now self.now }
+    {
+        if let Packet::Loco { to, .. } = command {
+            if self.is_for_another(to) {
+                return false;
+            }
+        }
+        self.is_displaced_by_instruction(command)
+    }
+
+    /// Returns true if a command displaces the stored entry. If the entry is a packet to locomotives,
+    /// the function compares instructions and creates no frame.
+    // not inlined, so that the comparison of addresses takes fewer instructions
+    #[inline(never)]
+    fn is_displaced_by_instruction(&self, command: &Packet) -> bool
         ensures { IsTrue result ↔ Displaces command.now self.now }
     {
         if let Some((_error_byte, body)) = self.frame.as_slice().split_last() {
@@ -108,6 +124,27 @@ impl KeptPacket {
             }
         }
         self.is_displaced_as_read(command)
+    }
+
+    /// Returns true if `to` is the address of one locomotive and the stored packet is sent to another.
+    fn is_for_another(&self, to: &Address) -> bool
+        ensures { result ≡ is_for_another to.now self.now }
+    {
+        match to {
+            Address::Broadcast => false,
+            Address::Short(own) => {
+                let first = self.frame.bytes[0];
+                first != own.number() && begins_address(first)
+            }
+            Address::Long(own) => {
+                let [first, second, ..] = self.frame.bytes;
+                if u16::from(first) == 192 + own.number() / 256 {
+                    u16::from(second) != own.number() % 256
+                } else {
+                    begins_address(first)
+                }
+            }
+        }
     }
 
     /// Returns true if a command displaces the stored entry. The function reads the packet of the
@@ -121,22 +158,6 @@ impl KeptPacket {
     }
 }
 
-/// Returns the address of locomotive decoders at the beginning of a frame. Returns `None` if the
-/// frame begins with no such address.
-fn address_in(frame: &[u8]) -> Option<Address>
-    requires { 2 ≤ length frame.now }
-    ensures { result ≡ heard.frame_address frame.now }
-{
-    match frame[0] {
-        0 => Some(Address::Broadcast),
-        first @ 1..=127 => Address::short(first).ok(),
-        first @ 192..=231 => {
-            Address::long((u16::from(first) - 192) * 256 + u16::from(frame[1])).ok()
-        }
-        _ => None,
-    }
-}
-
 /// Returns the frame in which a packet is stored. An idle packet is stored as no bytes.
 fn kept_frame(packet: &Packet) -> DccFrame
     ensures numbers { result ≡ frame_numbers (kept_bytes packet.now) }
@@ -146,4 +167,11 @@ fn kept_frame(packet: &Packet) -> DccFrame
         Packet::Idle => DccFrame::none(),
         _ => DccFrame::of_frame(&packet.frame()),
     }
+}
+
+/// Returns true if a frame that begins with this byte has the address of one locomotive.
+fn begins_address(first: u8) -> bool
+    ensures { result ≡ (nat_le 1 first && nat_le first 127 || nat_le 192 first && nat_le first 231) }
+{
+    matches!(first, 1..=127 | 192..=231)
 }

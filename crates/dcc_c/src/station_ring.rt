@@ -114,6 +114,9 @@ impl PacketRing for DccRing {
     }
 
     fn move_forward(&mut self, from: usize, to: usize) {
+        if from == to {
+            return;
+        }
         let from = place_behind(self.start, from as u8);
         let to = place_behind(self.start, to as u8);
         self.packets[usize::from(to)] = self.packets[usize::from(from)];

@@ -44,7 +44,7 @@ pub use cvs::{execute_write, mode_of};
 pub use decoder::Decoder;
 pub use effects::Effects;
 pub use function_bits::{first_function, functions_set};
-pub use heard::{address_of, hears};
+pub use heard::{address_of, frame_address, hears};
 pub use hears_frame::loco_hears_frame;
 pub use last_note::LastNote;
 pub use loco::LocoDecoder;

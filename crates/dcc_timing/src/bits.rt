@@ -34,7 +34,7 @@ impl Bits {
     }
 
     /// Adds the bits that the half-bits `halves` form, with two half-bits for each bit. `add_at_once`
-    /// has the contract of `add`. It is faster on a processor with vectors, and slower on a Cortex-M.
+    /// has the contract of `add`. It is faster on a processor with vectors, and slower on a Cortex-M3.
     #[inline(never)]
     pub(crate) fn add_at_once(&mut self, halves: &[u16])
         requires { bits_count self.old + length halves.now < 2 ^ 40 }

@@ -197,7 +197,7 @@ impl Timings {
     /// Appends a half-bit of `us` microseconds that has an outcome: a half-bit for which
     /// [`pass`](Self::pass) returned false. Returns this outcome. The longer list must have fewer than
     /// 2^32 half-bits. The parameter `at_once` changes only the speed: true is faster on a processor
-    /// with vectors, and false is faster on a Cortex-M.
+    /// with vectors, and false is faster on a Cortex-M3.
     #[inline(always)]
     pub fn push_shown(&mut self, us: u16, at_once: bool) -> Seen
         requires room { self.old.halves + 1 < 2 ^ 32 }

@@ -8,7 +8,7 @@ use Rattle.dcc_c.proofs.kept_packet.KeptPacket.address.Goals as goal
 pub returns : goal.returns
 returns c =
     let k = c.self.inside in
-    c.address_in.ensures ∙ ap frame_address c.as_slice.ensures
+    c.frame_address.ensures ∙ ap frame_address c.as_slice.ensures
     ∙ kept_address k.says.0 (bytes_of k.frame) k.says.1
     (λ none. c.if-self-eq0.false (ap (λ (f : DccFrame). f.len) c.self.invariant.1 ∙ ap length none))
     ∙ ap address_of c.self.view_is
