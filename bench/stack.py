@@ -19,8 +19,8 @@ BENCH = os.path.dirname(os.path.abspath(__file__))
 OUT = os.environ.get("OUT", f"{os.path.dirname(BENCH)}/crates/dcc_c/out")
 BOUNDS = os.environ.get("BOUNDS", f"{BENCH}/stack.bounds")
 RETURN = 8
-# the most calls of a function that calls itself: a number of 16 bits has at most five digits
-DEPTHS = {"dcc_packet::to_line_word::put_digits": 5}
+# the most calls of a function that calls itself: a number of 16 bits has at most five digits, and one of 32 bits ten
+DEPTHS = {"dcc_packet::to_line_word::put_digits": 5, "dcc_plain::text::append_digits": 10}
 FUNCTION = re.compile(r"[0-9a-f]+ <(.*)>:$")
 # (a call of a function of the same file can name the section of the function)
 CALLED = re.compile(r": R_X86_64_(?:PLT32|PC32)\t(?:\.text\.)?(\S.*?)(?:-0x[0-9a-f]+)?$")

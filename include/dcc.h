@@ -42,9 +42,10 @@
 extern "C" {
 #endif
 
-/* A byte of padding. Compilers for AVR align nothing, so on AVR this macro inserts the padding that compilers for other
- * targets insert. So an object has the same layout on each target. */
-#ifdef __AVR__
+/* A byte of padding. Compilers for AVR, for MSP430, and for 32-bit x86 without Windows align numbers of 64 bits to
+ * fewer bytes than other compilers. On these targets this macro inserts the padding that the others insert, so an
+ * object has the same layout on each target. */
+#if defined __AVR__ || defined __MSP430__ || (defined __i386__ && !defined _WIN32)
 #define DCC_FREE_BYTE unsigned : 8;
 #else
 #define DCC_FREE_BYTE
@@ -104,7 +105,7 @@ uint8_t dcc_push(dcc_framer *framer, uint16_t us, dcc_outcome *outcome);
 
 /* Takes n half-bits of us microseconds, as n calls of dcc_push would. At most one of these half-bits completes a
  * packet or a refusal. If one of them does, returns 1 and stores the outcome in *outcome. Otherwise returns 0 and
- * leaves *outcome unchanged. */
+ * leaves *outcome unchanged. The function takes at most 110 half-bits one by one, whatever n is. */
 uint8_t dcc_push_run(dcc_framer *framer, uint16_t us, uint32_t n, dcc_outcome *outcome);
 
 /* Takes the half-bits of an array in order, as calls of dcc_push would, up to the first half-bit that completes a
@@ -116,7 +117,7 @@ uint8_t dcc_push_many(dcc_framer *framer, const uint16_t *halves, uint64_t len, 
 
 /* ---- lost packets (NMRA S-9.1, S-9.2) ---- */
 
-/* A packet is lost at a half-bit if four conditions hold (docs/FORMATS.md):
+/* A packet is lost at a half-bit if these conditions hold (docs/FORMATS.md):
  *
  * - A framer has no outcome at this half-bit, and is between bodies after it.
  * - The half-bits end with at least 8 half-bits of ones and the body of the packet, with wider limits than the limits
@@ -170,7 +171,7 @@ uint8_t dcc_lost_push(dcc_lost *finder, uint16_t us, dcc_lost_packet *packet);
 /* Takes half-bits of us microseconds, as calls of dcc_lost_push would, up to the first half-bit at which a packet is
  * lost, and at most n. If a packet is lost, stores the packet with its causes in *packet, and returns the number of
  * this half-bit, counted from 1: the function then took this number of half-bits. Otherwise takes all n half-bits,
- * returns 0 and leaves *packet unchanged. */
+ * returns 0 and leaves *packet unchanged. The time of a call grows with n. */
 uint32_t dcc_lost_push_run(dcc_lost *finder, uint16_t us, uint32_t n, dcc_lost_packet *packet);
 
 /* Takes the half-bits of an array in order, as calls of dcc_lost_push would, up to the first half-bit at which a packet
@@ -206,10 +207,10 @@ typedef struct {
     uint32_t refused[5];   /* the number of refusals, H1 to H5 */
     uint32_t halves;       /* the number of half-bits */
     uint32_t lost;         /* the number of lost packets, at most 4294967295 */
-    uint16_t preamble;     /* the shortest preamble of a packet that was found or lost, in half-bits and at most 65535,
+    uint16_t preamble;     /* the shortest preamble of a packet that is seen or lost, in half-bits and at most 65535,
                               or 0 without has_preamble */
-    bool has_preamble;     /* true if a packet was found or lost */
-    bool has_gap;          /* true if at least two packets were found */
+    bool has_preamble;     /* true if a packet was seen or lost */
+    bool has_gap;          /* true if at least two packets were seen */
     DCC_FREE_BYTE DCC_FREE_BYTE DCC_FREE_BYTE DCC_FREE_BYTE
 } dcc_statistics;
 
@@ -217,7 +218,7 @@ typedef struct {
 void dcc_meter_new(dcc_meter *meter);
 
 /* Takes n half-bits of us microseconds and returns 1. If the meter would then have taken 2^32 or more half-bits,
- * returns 0 and takes none. */
+ * returns 0 and takes none. The time of a call grows with n. */
 uint8_t dcc_meter_push_run(dcc_meter *meter, uint16_t us, uint32_t n);
 
 /* Takes the len half-bits of an array in order and returns 1. If the meter would then have taken 2^32 or more
@@ -267,10 +268,14 @@ typedef struct {
 /* Writes the fields of the packet of a frame. */
 uint8_t dcc_read(const uint8_t *frame, uint64_t len, dcc_packet *packet);
 
-enum { DCC_LINE = 41, DCC_HALVES = 190, DCC_CVS = 1024 };
+enum { DCC_LINE = 41, DCC_PLAIN = 256, DCC_HALVES = 190, DCC_CVS = 1024 };
 
 /* Writes the packet line of a frame (docs/FORMATS.md), for example "loco s3 speed28 f 4", and then zeros. */
 uint8_t dcc_line(const uint8_t *frame, uint64_t len, char line[DCC_LINE]);
+
+/* Writes the plain words of a packet (docs/FORMATS.md), for example "locomotive 3: step 1 of 28, forward", and then
+ * zeros. The packet may have up to 15 bytes: returns 1 (L1) if there are not 3 to 15 bytes. */
+uint8_t dcc_plain(const uint8_t *frame, uint64_t len, char text[DCC_PLAIN]);
 
 /* Writes the frame of a packet line. If the line has an error, returns the number of its first error, 1 to 14 for
  * P1 to P14 (docs/FORMATS.md), and writes nothing. The parameter len counts only the bytes of the line, as strlen does.
@@ -288,7 +293,7 @@ uint8_t dcc_frame_of_line(const char *line, uint64_t len, dcc_frame *frame);
  *   the bits. STATE: 14 (P14). CV_..: 6 (P6) for the CV, then 7 (P7) for the place.
  * - ACCESSORY: 3 (P3) for the board, then 4 (P4) for the output. SIGNAL: 5 (P5).
  *
- * A dcc_packet has no bytes. So if the kind is DCC_OTHER, *frame has the bytes before the call. The function then
+ * If the kind is DCC_OTHER, the bytes come from *frame, since a dcc_packet has no field for them. The function then
  * returns 12 (P12) if *frame has no frame, or has the frame of a packet of another kind. Otherwise the function keeps
  * the bytes and writes zeros after them. */
 uint8_t dcc_frame_of_packet(const dcc_packet *packet, dcc_frame *frame);
@@ -386,7 +391,7 @@ uint8_t dcc_board_apply(dcc_board *board, const uint8_t *frame, uint64_t len);
 
 /* Writes true if the packet of a frame is for this decoder, and false otherwise. Packets for an accessory decoder name
  * an output of its board or of board 511, one of its four signals, or signal 2047. A reset of all decoders is for every
- * accessory decoder. Returns 13 if no decoder can have the number in *board. The function ignores all other fields. */
+ * accessory decoder. Returns 13 if the number in *board is above 511. The function ignores all other fields. */
 uint8_t dcc_board_hears(const dcc_board *board, const uint8_t *frame, uint64_t len, bool *heard);
 
 /* A decoder on the programming track, in direct mode (NMRA S-9.2.3). */
@@ -482,7 +487,7 @@ uint8_t dcc_small_service_apply(dcc_small_service *service, const uint8_t *frame
  * - Each other frame ends service mode. If a service packet changed a CV since service mode began, the decoder first
  *   powers up with its CVs, and so has its new address. The decoder then hears the frame as on the main track.
  *
- * On the main track, frames for the short addresses 112 to 127 look like service packets. After a reset, two copies of
+ * On the main track, frames for the short addresses 116 to 127 look like service packets. After a reset, two copies of
  * 7c 3f 85 c6, a speed packet for address 124, would write CV64 of each decoder that can enter service mode. So a
  * program that knows that its decoder is on the main track calls the _set_main_only function.
  *
@@ -532,7 +537,8 @@ void dcc_decoder_set_main_only(dcc_decoder *decoder, bool main_only);
  * decoder with the address 511 hears only the packets for all accessory decoders. No packet of the main track changes a
  * CV. If all bytes are zero, the decoder has the address 0, its outputs are off, and its CVs are 0. */
 typedef struct {
-    dcc_board board;           /* the decoder with its address, 0 to 511, outputs, positions and aspects */
+    dcc_board board;           /* the decoder with its address, 0 to 511, outputs, positions and aspects. A decoder
+                                * with the address 511 hears only the packets for all boards */
     uint8_t cvs[DCC_CVS];      /* CV1 is cvs[0] */
     dcc_small_service service; /* service.in_service is true if the decoder is in service mode */
     bool changed;              /* true if a service packet changed a CV since service mode began */

@@ -24,6 +24,12 @@ function finish(text) {
     if (close("cat")) exit 1
 }
 
+# the number that digits spell in decimal. busybox awk reads digits behind a 0 as octal
+function decimal(text) {
+    sub(/^0+/, "", text)
+    return text + 0
+}
+
 {
     sub(/#.*/, "")
     words = split($0, word, /[ \t\r]+/)
@@ -31,14 +37,15 @@ function finish(text) {
         if (word[i] == "") continue
         parts = split(word[i], run, "*")
         if (word[i] !~ /^[0-9]+(\*[0-9]+)?$/ || length(run[1]) > 10 ||
-            parts > 1 && (length(run[2]) > 8 || run[2] < 1)) {
+            parts > 1 && (length(run[2]) > 8 || decimal(run[2]) < 1)) {
             gsub(/[^ -~]/, "?", word[i])
             print "capture-to-vcd: line " NR ": \"" substr(word[i], 1, 40) "\" is no duration" > "/dev/stderr"
             refused = 1
             exit 1
         }
-        for (n = parts > 1 ? run[2] : 1; n > 0; n--) {
-            at += run[1]
+        us = decimal(run[1])
+        for (n = parts > 1 ? decimal(run[2]) : 1; n > 0; n--) {
+            at += us
             level = 1 - level
             printf "#%.0f %d!\n", at, level
         }

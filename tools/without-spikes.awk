@@ -3,15 +3,21 @@
 # and the half-bit after it become one half-bit of their sum. A run is read as its half-bits, one by one. All other
 # text stays as it is: half-bits and runs without a spike, comments, and each line with a word that is no duration, as
 # `---` and the lines of a decoder text.
-BEGIN { if (least == "") least = 5 }
+BEGIN { least = least == "" ? 5 : decimal(least) }
+
+# the number that digits spell in decimal. busybox awk reads digits behind a 0 as octal
+function decimal(text) {
+    sub(/^0+/, "", text)
+    return text + 0
+}
 
 # returns true if a word is a duration or a run, and sets its digits, microseconds and count: spelled, us, n
 function is_duration(word,    part, parts) {
     if (word !~ /^[0-9]+(\*[0-9]+)?$/) return 0
     parts = split(word, part, "*")
     spelled = part[1]
-    us = spelled + 0
-    n = parts == 2 ? part[2] + 0 : 1
+    us = decimal(spelled)
+    n = parts == 2 ? decimal(part[2]) : 1
     return length(part[1]) <= 10 && n >= 1 && n <= 16777216 && (parts == 1 || length(part[2]) <= 8)
 }
 

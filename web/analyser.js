@@ -90,6 +90,9 @@ class Recording {
   }
 }
 
+/** The most characters of a time, and of the unit of a VCD file. */
+const [MOST_OF_TIME, MOST_OF_UNIT] = [100, 20];
+
 const isBlank = (code) => code === BLANK || code === TAB;
 
 const MICROSECONDS = { s: 1e6, ms: 1e3, us: 1, ns: 1e-3, ps: 1e-6, fs: 1e-9 };
@@ -143,7 +146,8 @@ class Vcd {
   endCommand() {
     const { command, words } = this;
     if (command === '$timescale') {
-      const [, count, unit] = words.join('').match(/^(\d+)([a-z]+)$/) ?? [];
+      const text = words.join('');
+      const [, count, unit] = (text.length <= MOST_OF_UNIT && text.match(/^(\d+)([a-z]+)$/)) || [];
       this.unit = count * MICROSECONDS[unit] || 0;
     }
     if (command === '$var' && words[1] === '1') this.addWire(words.slice(3, 5).join(''), words[2]);
@@ -171,7 +175,7 @@ class Vcd {
     if (!this.unit) {
       throw new Unreadable('no $timescale, as $timescale 1 ns $end, stands before the times: they have no unit');
     }
-    if (!/^#[0-9]+$/.test(word)) this.recording.refuseLine(`${quoted(word)} is no time`);
+    if (!/^#[0-9]+$/.test(word) || word.length > MOST_OF_TIME) this.recording.refuseLine(`${quoted(word)} is no time`);
     const time = Number(word.slice(1)) * this.unit;
     if (time < this.at) this.recording.refuseLine('its time lies before that of the line above');
     this.at = time;
@@ -189,8 +193,9 @@ const unitOf = (title) => {
   return /milli|[^a-z]ms/.test(text) ? 1e3 : 1e6;
 };
 
-/** Returns the hertz of a rate such as 24 MHz. */
+/** Returns the hertz of a rate such as 24 MHz, or 0 if the text is no rate. */
 const hertz = (text) => {
+  if (!/^ *[0-9]+(\.[0-9]+)? *([kMGH]|$)/.test(text)) return 0;
   const unit = ['G', 'M', 'k'].find((it) => text.includes(it));
   return parseFloat(text) * ({ G: 1e9, M: 1e6, k: 1e3 }[unit] ?? 1);
 };
@@ -215,9 +220,6 @@ const separatorOf = (row) => {
   const bare = row.replace(/"[^"]*"/g, '');
   return bare.includes(';') ? ';' : bare.includes('\t') ? '\t' : ',';
 };
-
-/** The most characters of a time. */
-const LONGEST_TIME = 100;
 
 /** Reads a digital CSV: a time, and a column for each channel. A row is an edge of any channel, or a sample. */
 class Csv {
@@ -338,7 +340,7 @@ class Csv {
 
   /** Returns a time in the unit of its column, or null if the text is no time. */
   timeOf(text) {
-    if (text.length > LONGEST_TIME) return null;
+    if (text.length > MOST_OF_TIME) return null;
     const number = this.separator === ',' ? text : text.replace(',', '.');
     if (/^[-+]?[0-9]*\.?[0-9]+([eE][-+]?0?[0-9][0-9]?)?$/.test(number)) return Number(number);
     // a date and a time of day are the seconds since the beginning of the month
@@ -383,16 +385,20 @@ const resultOf = (form, recording, sentence) => {
   return { form, halves, channels: offered, allChannels: channels.length, key: picked?.key, refused };
 };
 
+/** Returns true if a file begins with these bytes. */
+const beginsWith = (bytes, ...begin) => begin.every((it, i) => it === bytes[i]);
+
+const isZip = (bytes) => beginsWith(bytes, 0x50, 0x4b);
+
 /** Returns why a file has none of the known forms, or null. */
-const strangeFile = (text) => {
-  if (text.startsWith('PK')) {
+const strangeFile = (bytes) => {
+  if (isZip(bytes)) {
     return (
       'this is a zip archive, as .sr of sigrok and PulseView, .sal of Logic 2 and .dsl of DSView are: ' +
       'export it as VCD or CSV, as by sigrok-cli -i track.sr -O vcd'
     );
   }
-  // the first two bytes are no text
-  if (text.startsWith('\ufffd\ufffd')) {
+  if (beginsWith(bytes, 0xff, 0xfe) || beginsWith(bytes, 0xfe, 0xff)) {
     return 'this text is UTF-16, as PowerShell writes it behind >: let sigrok-cli write the file, by -o track.vcd';
   }
   return null;
@@ -403,31 +409,42 @@ const strangeFile = (text) => {
 const formOf = (text) => {
   let form = null;
   takeLines(text, (row) => {
-    if (/^\s*\$/.test(row)) form = 'VCD';
+    if (/^[ \t]*\$/.test(row)) form = 'VCD';
     else if (row[0] === ';') form = 'CSV';
-    else if (/^#|^META /.test(row) || !/\S/.test(row)) return true;
+    else if (/^#|^META /.test(row) || !/[^ \t\r]/.test(row)) return true;
     else if (isCsvRow(row.slice(0, 1000))) form = 'CSV';
     return false;
   });
   return form;
 };
 
-const isCsvRow = (front) => /^"?[a-z].*[,;\t]/i.test(front) || /^[^,;]+[,;] *"?[01]"?\s*([,;]|$)/.test(front);
+/** Returns true if a line is the header or a row of a CSV. Tabs may also separate the words of a capture, so the time
+ * of a row with tabs is no whole number, or it is 0 and only levels follow. */
+const isCsvRow = (front) =>
+  /^"?[a-z].*[,;\t]/i.test(front) ||
+  /^[^,;]+[,;] *"?[01]"?\s*([,;]|$)/.test(front) ||
+  /^"?[-+]?[0-9]*[-+.,eE:"][^\t#]*\t *"?[01]"?\s*(\t|$)/.test(front) ||
+  /^0+(\t[01])+\s*$/.test(front);
 
 /** The number of bytes that suffice to detect the form of a file. */
 const FRONT = 1000000;
 
 /** Returns the bytes after a byte order mark, which editors of Windows write. */
-const withoutMark = (bytes) => ([0xef, 0xbb, 0xbf].every((it, i) => it === bytes[i]) ? bytes.subarray(3) : bytes);
+const withoutMark = (bytes) => (beginsWith(bytes, 0xef, 0xbb, 0xbf) ? bytes.subarray(3) : bytes);
+
+const refusedFile = (sentence) => ({
+  form: 'File',
+  halves: new Halves(),
+  refused: refusal(null, `File: ${sentence}.`),
+});
 
 /** Returns the half-bits of a file in any form, up to its first error. Calls `tell` with the part that is read, from
  * 0 to 1. */
 const readBytes = (file, key, tell) => {
   const bytes = withoutMark(file);
-  const front = textOf(bytes.subarray(0, FRONT));
-  const strange = strangeFile(front);
-  if (strange) return { form: 'File', halves: new Halves(), refused: refusal(null, `File: ${strange}.`) };
-  const form = formOf(front);
+  const strange = strangeFile(bytes);
+  if (strange) return refusedFile(strange);
+  const form = formOf(textOf(bytes.subarray(0, FRONT)));
   if (form) return readRecording(form, textOf(bytes), key, tell);
   return { form: 'Capture', ...readCapture(bytes, tell) };
 };

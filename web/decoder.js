@@ -119,6 +119,7 @@ class Hearing {
     this.dcc = dcc;
     this.outcomes = outcomes;
     this.kept = [fresh];
+    this.last = { n: 0, state: fresh };
   }
 
   /** Returns the state of the decoder after the first n outcomes. */
@@ -127,7 +128,11 @@ class Hearing {
     for (let i = this.kept.length; i <= whole; i += 1) {
       this.kept.push(this.over(this.kept[i - 1], (i - 1) * KEPT_EVERY, i * KEPT_EVERY));
     }
-    return this.over(this.kept[whole], whole * KEPT_EVERY, n);
+    // the outcomes of a sniffer go on from the last state
+    const isOn = this.last.n >= whole * KEPT_EVERY && this.last.n <= n;
+    const from = isOn ? this.last : { n: whole * KEPT_EVERY, state: this.kept[whole] };
+    this.last = { n, state: this.over(from.state, from.n, n) };
+    return this.last.state;
   }
 
   over(decoder, from, to) {

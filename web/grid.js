@@ -17,10 +17,11 @@ const cell = (name, className, text) => {
 const cellsOf = (dcc, outcome, strip) => {
   const what = cell('td', 'what');
   what.append(make('span', 'words', told(dcc, outcome)));
-  const people = outcome.refusal ? '' : peopleWords(dcc.packetOf(outcome.bytes), outcome.bytes);
+  const people = outcome.refusal ? '' : peopleWords(dcc, outcome.bytes);
   if (people) what.append(make('span', 'people', people));
   if (strip.fault) what.append(make('span', 'why', strip.fault.text));
   else what.append(make('span', 'bytes', outcome.bytes.map((it) => hex([it])).join(' ')));
+  for (const it of outcome.gaps ?? []) what.append(make('span', 'gap', gapText(it)));
   const number = cell('th', 'number');
   number.append(make('span', 'at', outcome.at), make('span', 'time', milliseconds(outcome.time)));
   return [number, what];
@@ -43,8 +44,8 @@ const NARROW = 500;
 
 /** Scrolls drawings that are wider than their cell to their end, where the packet is. The drawing of a lost packet is
  * scrolled to the cause, and a drawing in a narrow cell to the preamble. */
-const showEnds = (element) => {
-  for (const it of element.querySelectorAll('.track')) {
+const showEnds = (...elements) => {
+  for (const it of elements.flatMap((element) => [...element.querySelectorAll('.track')])) {
     const { strip, edges } = it.querySelector('svg');
     const xOf = (place) => edges[place - strip.from];
     const preamble = strip.parts.find((part) => part.kind === 'preamble');
@@ -132,9 +133,10 @@ class Grid {
   click(event) {
     const row = event.target.closest('[data-row]');
     if (!row) return;
-    this.choose(Number(row.dataset.row));
     const svg = event.target.closest('svg');
-    if (svg) this.chooseHalf(placeAt(svg, event.clientX - svg.getBoundingClientRect().left));
+    const place = svg && placeAt(svg, event.clientX - svg.getBoundingClientRect().left);
+    this.choose(Number(row.dataset.row));
+    if (svg) this.chooseHalf(place);
   }
 
   press(event) {

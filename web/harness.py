@@ -17,7 +17,8 @@ PAGE = WEB / "index.html"
 CHROMIUM = os.environ.get("CHROMIUM") or next(
     (it for it in ("chromium", "chromium-browser", "google-chrome") if shutil.which(it)), None
 )
-PATIENCE = 120
+# a mutant can stop the page
+PATIENCE = 20 if os.environ.get("FIRST") else 120
 # the values of the filter's fields in a new page
 FILTER = ["", True, "all", False, ""]
 KEYS = {
@@ -300,6 +301,8 @@ class Browser:
 
 
 passed = failed = 0
+# the name of the part that runs
+part_now = ""
 
 
 def check(name, holds, more=""):
@@ -308,11 +311,17 @@ def check(name, holds, more=""):
         passed += 1
     else:
         failed += 1
-        print(f"failed: {name}{f': {more}' if more else ''}")
+        # tools/package-mutants reads the part, and needs only the first failure
+        is_mutant = "FIRST" in os.environ
+        print(f"failed: {f'{part_now}: ' if is_mutant else ''}{name}{f': {more}' if more else ''}")
+        if is_mutant:
+            sys.exit(1)
 
 
 def attempt(part, *words):
     """Runs a part of the tests. A part leaves the filter of the page as it found it."""
+    global part_now
+    part_now = part.__name__
     try:
         part(*words)
         if words and isinstance(words[0], Browser):

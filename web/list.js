@@ -55,7 +55,7 @@ const finderOf = (dcc, text) => {
   const words = text.trim().toLowerCase();
   const digits = words.replace(/\s+/g, '');
   if (!words) return () => true;
-  const isFound = once((bytes) => peopleWords(dcc.packetOf(bytes), bytes).toLowerCase().includes(words));
+  const isFound = once((bytes) => peopleWords(dcc, bytes).toLowerCase().includes(words));
   return (item) => {
     const hasBytes = /^[0-9a-f]+$/.test(digits) && hex(item.bytes).includes(digits);
     return hasBytes || told(dcc, item).toLowerCase().includes(words) || (!item.refusal && isFound(item.bytes));
@@ -73,27 +73,34 @@ const itemAt = (items, text) => {
   return at < 0 ? items.length - 1 : at;
 };
 
-/** Returns true if two items have equal rows. */
+/** Returns true if an item has the row of the item before it. Where half-bits are missing, a row begins. */
 const isRepeat = (a, b) => {
   const [one, other] = [a, b].map((it) => (it.lost ? causesText(it.lost) : ''));
-  return a.refusal === b.refusal && a.bytes === b.bytes && one === other;
+  return a.refusal === b.refusal && a.bytes === b.bytes && one === other && !b.gaps;
 };
 
-/** Returns the rows: the place of the first item, the place of the last one, and their number. Equal frames are one
- * list. */
-const rowsOf = (items, isWanted, isFolded) => {
-  const rows = [];
-  let last = null;
-  items.forEach((it, i) => {
-    if (!isWanted(it)) return;
-    const before = last && items[last.last];
-    if (isFolded && before && isRepeat(before, it)) {
+/** The rows of items that come part by part: the place of the first item, the place of the last one, and their number.
+ * Equal frames are one list. */
+class Rows {
+  constructor(items, isWanted, isFolded) {
+    Object.assign(this, { items, isWanted, isFolded, list: [], read: 0, shown: 0 });
+  }
+
+  /** Adds the rows of the items that have come since the last call. */
+  take() {
+    const { items } = this;
+    for (; this.read < items.length; this.read += 1) if (this.isWanted(items[this.read])) this.add(items, this.read);
+    return this;
+  }
+
+  add(items, i) {
+    const last = this.list[this.list.length - 1];
+    this.shown += 1;
+    if (this.isFolded && last && isRepeat(items[last.last], items[i])) {
       last.last = i;
       last.times += 1;
     } else {
-      last = { first: i, last: i, times: 1 };
-      rows.push(last);
+      this.list.push({ first: i, last: i, times: 1 });
     }
-  });
-  return rows;
-};
+  }
+}

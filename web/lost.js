@@ -1,5 +1,5 @@
-// Lost packets: packets that were sent but that no decoder hears (docs/FORMATS.md). The module finds them with their
-// causes. This script writes the causes, and merges lost packets with the outcomes. Nothing here is proved.
+// Lost packets: packets that a decoder of this toolkit does not hear (docs/FORMATS.md). The module finds them with
+// their causes. This script writes the causes, and merges lost packets with the outcomes. Nothing here is proved.
 
 /** Returns the class of a half-bit in the wider limits of lost packets. */
 const nearestClassOf = (us) => (us >= 26 && us <= 76 ? 'one' : us >= 77 && us <= 20000 ? 'zero' : 'bad');
@@ -41,16 +41,17 @@ const causeOf = (halves, { at, lost }, start) => {
   return { from: first, to: first + 1, text };
 };
 
-/** Returns outcomes and lost packets in the order of their ends. Each item has the number of outcomes up to it. */
-const mergedItems = (outcomes, lost) => {
+/** Returns outcomes and lost packets in the order of their ends. Each item has the number of outcomes up to it, and
+ * `before` is the number of outcomes before these. */
+const mergedItems = (outcomes, lost, before = 0) => {
   if (!lost.length) return outcomes;
   const items = [];
   let next = 0;
   outcomes.forEach((it, i) => {
-    for (; next < lost.length && lost[next].at < it.at; next += 1) items.push({ ...lost[next], heard: i });
+    for (; next < lost.length && lost[next].at < it.at; next += 1) items.push({ ...lost[next], heard: before + i });
     items.push(it);
   });
-  for (; next < lost.length; next += 1) items.push({ ...lost[next], heard: outcomes.length });
+  for (; next < lost.length; next += 1) items.push({ ...lost[next], heard: before + outcomes.length });
   return items;
 };
 
@@ -62,10 +63,3 @@ const isWithinPair = (us, [least, most]) => us >= least && us <= most;
 /** Returns true if the two half-bits at a place, directly after a packet, are a RailCom cutout. */
 const isCutout = (halves, at) =>
   at + 1 < halves.count && isWithinPair(halves.us[at], CUTOUT.gap) && isWithinPair(halves.us[at + 1], CUTOUT.length);
-
-/** Returns the places of the RailCom cutouts after packets. */
-const cutoutsOf = (halves, packets) => {
-  const places = [];
-  for (const { at, refusal } of packets) if (!refusal && isCutout(halves, at)) places.push(at);
-  return places;
-};

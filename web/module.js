@@ -5,6 +5,7 @@ const LOST_BYTES = 808;
 const LOST_PACKET_BYTES = 28;
 const HALVES_EACH = 32768;
 const LINE_BYTES = 41;
+const PLAIN_BYTES = 256;
 const CVS = 1024;
 const DECODER_BYTES = { loco: 1072, board: 12 };
 const PAGE_BYTES = 65536;
@@ -55,6 +56,7 @@ class Dcc {
     this.lostPacket = room(LOST_PACKET_BYTES);
     this.frame = room(7);
     this.line = room(LINE_BYTES);
+    this.text = room(PLAIN_BYTES);
     this.packet = room(18);
     this.decoder = room(DECODER_BYTES.loco);
     this.cvs = room(CVS);
@@ -103,55 +105,18 @@ class Dcc {
   }
 
   /** Returns the outcomes of half-bits as the arrays of PackedOutcomes. */
-  outcomes(halves, tell = () => {}) {
-    const { dcc_framer_new: begin, dcc_push_many: push, memory } = this.calls;
-    const { placeOf } = this;
-    const [framer, outcome, taken] = [this.framer, this.outcome, this.taken].map((it) => placeOf(it));
-    const room = new Uint16Array(memory.buffer, this.halves, HALVES_EACH);
-    const counted = new Uint32Array(memory.buffer, this.taken, 1);
-    const view = new DataView(memory.buffer, this.outcome, OUTCOME_BYTES);
+  outcomes(halves, tell) {
     const packed = new PackedOutcomes();
-    const frame = () => [...this.bytesAt(this.outcome + 6, view.getUint8(5))];
-    let time = 0;
-    begin(framer);
-    for (let from = 0; from < halves.count; from += HALVES_EACH) {
-      const part = halves.us.subarray(from, Math.min(from + HALVES_EACH, halves.count));
-      room.set(part);
-      for (let at = 0; at < part.length; ) {
-        const isEnd = push(framer, placeOf(this.halves + 2 * at), BigInt(part.length - at), outcome, taken);
-        for (const end = at + counted[0]; at < end; at += 1) time += room[at];
-        if (!isEnd) continue;
-        packed.add(from + at, time, view.getUint8(4), this.numberAt(this.outcome + 6, view.getUint8(5)), frame);
-      }
-      if (from % TOLD_EACH < HALVES_EACH) tell((from + part.length) / halves.count);
-    }
+    const search = new OutcomeSearch(this, (...outcome) => packed.add(...outcome));
+    searchAll(halves, search, tell);
     return packed.arrays();
   }
 
   /** Returns the lost packets in half-bits: the number of the last half-bit, from 1, its end in microseconds, the
    * bytes, and the causes. */
-  lost(halves, tell = () => {}) {
-    const { dcc_lost_push_many: push, memory } = this.calls;
-    const { placeOf } = this;
-    const [finder, packet, taken] = [this.finder, this.lostPacket, this.taken].map((it) => placeOf(it));
-    const room = new Uint16Array(memory.buffer, this.halves, HALVES_EACH);
-    const counted = new Uint32Array(memory.buffer, this.taken, 1);
-    this.bytesAt(this.finder, LOST_BYTES).fill(0);
+  lost(halves, tell) {
     const list = [];
-    // the end of half-bit `timed` in microseconds
-    let [time, timed] = [0, 0];
-    for (let from = 0; from < halves.count; from += HALVES_EACH) {
-      const part = halves.us.subarray(from, Math.min(from + HALVES_EACH, halves.count));
-      room.set(part);
-      for (let at = 0; at < part.length; ) {
-        const isLost = push(finder, placeOf(this.halves + 2 * at), BigInt(part.length - at), packet, taken);
-        at += counted[0];
-        if (!isLost) continue;
-        for (; timed < from + at; timed += 1) time += halves.us[timed];
-        list.push({ at: from + at, time, refusal: 0, ...this.lostAt(from + at) });
-      }
-      if (from % TOLD_EACH < HALVES_EACH) tell((from + part.length) / halves.count);
-    }
+    searchAll(halves, new LostSearch(this, (packet) => list.push(packet)), tell);
     return list;
   }
 
@@ -174,11 +139,22 @@ class Dcc {
     return [this.placeOf(this.frame), BigInt(bytes.length)];
   }
 
+  /** Returns the text at a place of the memory, which ends before the first zero. */
+  textAt(at, n) {
+    const text = this.bytesAt(at, n);
+    return String.fromCharCode(...text.subarray(0, text.indexOf(0)));
+  }
+
   /** Returns the packet line of the bytes of a packet. */
   words(bytes) {
     checked('dcc_line', this.calls.dcc_line(...this.lay(bytes), this.placeOf(this.line)));
-    const line = this.bytesAt(this.line, LINE_BYTES);
-    return String.fromCharCode(...line.subarray(0, line.indexOf(0)));
+    return this.textAt(this.line, LINE_BYTES);
+  }
+
+  /** Returns the plain words of the bytes of a packet. */
+  plain(bytes) {
+    checked('dcc_plain', this.calls.dcc_plain(...this.lay(bytes), this.placeOf(this.text)));
+    return this.textAt(this.text, PLAIN_BYTES);
   }
 
   /** Returns the kind of a packet, a number of include/dcc.h. */

@@ -813,6 +813,18 @@ def timings(browser, program):
     same(
         "a half-bit beyond the limits stands in its bar", browser.js("document.querySelectorAll('.bar.bad').length"), 2
     )
+    station = {"ones": "55 to 61", "zeros": "95 to 9,900"}
+    for halves, red in {
+        "55*30 61*30 95*2 9900*2": [],
+        "54*30": [station["ones"]],
+        "62*30": [station["ones"]],
+        "52*30 64*30": [station["ones"]],
+        "94*4": [station["zeros"]],
+        "100 9901": [station["zeros"]],
+        "54*30 90*4 10000": [station["ones"], station["zeros"]],
+    }.items():
+        browser.paste(halves)
+        same(f"limits that {halves} exceed are red", browser.texts("#figures .beyond"), red)
     browser.paste("1*2 39 40*2 41*3 129 58*28 131 65535 70000 9999999999")
     bars = browser.texts(".bar")
     same(

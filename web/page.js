@@ -5,6 +5,9 @@ const decode = (base64) => Uint8Array.from(atob(base64), (it) => it.charCodeAt(0
 /** The most lines of the list in its field. A browser needs some 6 KB for each line. */
 const LINES_SHOWN = 2000;
 
+/** The milliseconds between two drawings of the durations in a capture that grows. */
+const TIMINGS_EACH = 3000;
+
 class Page {
   constructor(dcc, work) {
     this.dcc = dcc;
@@ -13,6 +16,8 @@ class Page {
     this.sides = new Sides(dcc, work);
     this.source = new Source('', work, (read) => this.take(read));
     this.second = new Source('second-', work, (read) => this.takeSecond(read));
+    this.sniffer = new Sniffer(this);
+    this.table.pause = () => this.sniffer.pause();
     $('kind').append(...Object.entries(KINDS).map(([key, { name }]) => new Option(name, key)));
     for (const id of ['kind', 'own', 'fold']) $(id).addEventListener('change', () => this.list());
     $('find').addEventListener('input', () => this.list());
@@ -22,7 +27,7 @@ class Page {
     $('listing').addEventListener('toggle', () => this.writeListing());
     $('timing').addEventListener('toggle', () => this.showTimings());
     $('comparison').addEventListener('toggle', () => this.compare());
-    $('save').addEventListener('click', () => this.saveListing());
+    $('save').addEventListener('click', () => download('packets.txt', this.listing()));
     $('cut').addEventListener('click', () => this.cut());
     for (const it of document.querySelectorAll('[data-example]')) {
       it.addEventListener('click', () => this.source.put($(it.dataset.example).textContent.trimStart()));
@@ -31,6 +36,14 @@ class Page {
       if (event.dataTransfer.types.includes('Files')) event.preventDefault();
     });
     document.addEventListener('drop', (event) => this.drop(event));
+  }
+
+  get halves() {
+    return this.capture.halves;
+  }
+
+  get outcomes() {
+    return this.capture.outcomes;
   }
 
   /** A file that is dropped on the second capture becomes the second capture, otherwise the first. */
@@ -48,18 +61,24 @@ class Page {
     const outcomes = unpackOutcomes(this.dcc, packed);
     const lost = read.lost.map((it) => ({ ...it, bytes: this.dcc.frameOf(it.bytes) }));
     const items = mergedItems(outcomes, lost);
-    return { ...read, halves, outcomes, lost, items, tail: tailOf(halves, items[items.length - 1]) };
+    const refusals = outcomes.filter((it) => it.refusal).length;
+    return { ...read, halves, outcomes, lost, items, refusals, tail: tailOf(halves, items[items.length - 1]) };
   }
 
-  async take(read) {
-    this.capture = this.heard(read);
-    Object.assign(this, { halves: this.capture.halves, outcomes: this.capture.outcomes });
-    $('cut').hidden = !read.isTwo;
+  async show(capture) {
+    this.capture = capture;
     this.sumUp();
     this.list();
     this.writeListing();
     this.showTimings();
     await this.compare();
+  }
+
+  async take(read) {
+    this.sniffer.leave();
+    this.table.isLive = false;
+    $('cut').hidden = !read.isTwo;
+    await this.show(this.heard(read));
     // a test waits for this
     document.body.dataset.read = Number(document.body.dataset.read ?? 0) + 1;
   }
@@ -68,6 +87,39 @@ class Page {
     this.other = this.heard(read);
     await this.compare();
     document.body.dataset.read = Number(document.body.dataset.read ?? 0) + 1;
+  }
+
+  /** Shows a capture that grows: the newest rows, and those that come. */
+  follow(live) {
+    this.table.isLive = true;
+    $('cut').hidden = true;
+    this.show(live);
+  }
+
+  /** Shows what has come to the capture that grows, and returns the number of rows that are drawn. After it has
+   * forgotten half-bits, it has other items. */
+  grow() {
+    const { table, rows } = this;
+    if (!table.isLive) return 0;
+    this.sumUp();
+    if (this.capture.items !== rows.items) this.list();
+    this.rows.take();
+    const drawn = table.grow();
+    this.tellFilter();
+    this.writeListing();
+    // a drawing that is in use stays
+    const isDue = performance.now() - this.timedAt > TIMINGS_EACH;
+    if (isDue && !$('timing').contains(document.activeElement)) this.showTimings();
+    return drawn;
+  }
+
+  /** Shows a capture that grew as it is now, and its newest rows if those were shown. */
+  hold(capture) {
+    const { first, isLive } = this.table;
+    this.table.isLive = false;
+    this.show(capture);
+    if (isLive && this.decoder()) this.table.choose(this.table.rows.length - 1);
+    else if (isLive || this.table.chosen === null) this.table.turn(isLive ? Infinity : first);
   }
 
   /** Splits two captures with a line `---` between them into the first and the second. */
@@ -80,8 +132,7 @@ class Page {
   }
 
   sumUp() {
-    const { halves, outcomes, lost, name } = this.capture;
-    const refusals = outcomes.filter((it) => it.refusal).length;
+    const { halves, outcomes, lost, name, refusals } = this.capture;
     const packets = plural(outcomes.length - refusals, 'packet');
     const found = `${packets}, ${count(refusals)} refused, ${count(lost.length)} lost`;
     const told = `${plural(halves.count, 'half-bit')}, ${found}.`;
@@ -90,6 +141,8 @@ class Page {
     const why = ' Nowhere do 20 halves of ones stand directly before a half of a zero whose packet ends.';
     $('sum').textContent = `${name}: ${told}${long}${halves.count && !outcomes.length && !lost.length ? why : ''}`;
     $('result').hidden = halves.count === 0;
+    // a reader of the screen would read the numbers of a capture that grows without an end
+    for (const id of ['sum', 'who-says']) $(id).ariaLive = this.table.isLive ? 'off' : 'polite';
   }
 
   /** Takes the name of a decoder from one of the two fields. */
@@ -112,9 +165,9 @@ class Page {
     const kind = $('kind').value;
     const found = finderOf(this.dcc, $('find').value);
     const isWanted = wantedBy(this.dcc, kind, $('own').checked ? decoder?.fresh : null, found);
-    const rows = rowsOf(this.capture.items, isWanted, $('fold').checked);
-    this.table.show(this.capture, rows, decoder, kind === 'all' && !$('find').value.trim());
-    this.tellFilter(rows, decoder);
+    this.rows = new Rows(this.capture.items, isWanted, $('fold').checked).take();
+    this.table.show(this.capture, this.rows.list, decoder, kind === 'all' && !$('find').value.trim());
+    this.tellFilter();
   }
 
   /** Chooses the row of a half-bit or a time. */
@@ -127,11 +180,11 @@ class Page {
     this.table.element(this.table.chosen).scrollIntoView({ block: 'center' });
   }
 
-  tellFilter(rows, decoder) {
-    const shown = rows.reduce((sum, it) => sum + it.times, 0);
+  tellFilter() {
+    const { shown } = this.rows;
     const word = $('who').value.trim();
     const says = [];
-    if (word && !decoder) {
+    if (word && !this.decoder()) {
       says.push(`“${word}” names no decoder. Names are s1 to s127, l0 to l10239, none, and b0 to b510.`);
     }
     const all = this.capture.items.length;
@@ -165,21 +218,16 @@ class Page {
     $('lines-shown').textContent = all > LINES_SHOWN ? part : '';
   }
 
-  saveListing() {
-    const link = make('a');
-    link.href = URL.createObjectURL(new Blob([...this.listing()], { type: 'text/plain' }));
-    link.download = 'packets.txt';
-    link.click();
-    // a browser can begin to read it later
-    setTimeout(() => URL.revokeObjectURL(link.href), 60000);
-  }
-
   showTimings() {
-    if ($('timing').open && this.halves.count) showTimings(timingsOf(this.halves, this.outcomes, this.capture.lost));
+    this.timedAt = performance.now();
+    const { halves, outcomes, lost, timings } = this.capture;
+    if ($('timing').open && halves.count) showTimings(timings?.told() ?? timingsOf(halves, outcomes, lost));
   }
 
   async compare() {
-    if ($('comparison').open) await this.sides.show([this.capture, this.other], this.decoder(), this.table.zoom);
+    if (!$('comparison').open) return;
+    const [captures, decoder] = [[this.capture, this.other], this.decoder()];
+    await this.sides.show(captures, decoder, this.table.zoom, this.table.isLive && 'Pause the list to compare it.');
   }
 }
 

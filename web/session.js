@@ -35,8 +35,9 @@ const zipEntries = (bytes) => {
     const [size, local] = [20, 42].map((it) => view.getUint32(at + it, true));
     if (local + 30 > bytes.length || view.getUint32(local, true) !== ZIP_LOCAL) return null;
     const from = local + 30 + view.getUint16(local + 26, true) + view.getUint16(local + 28, true);
-    const data = bytes.subarray(from, from + size);
-    entries.set(textOf(bytes.subarray(at + 46, at + 46 + name)), { method: view.getUint16(at + 10, true), data });
+    const [flags, method] = [8, 10].map((it) => view.getUint16(at + it, true));
+    const [data, checksum] = [bytes.subarray(from, from + size), view.getUint32(at + 16, true)];
+    entries.set(textOf(bytes.subarray(at + 46, at + 46 + name)), { isSecret: (flags & 1) > 0, method, data, checksum });
     at += 46 + name + extra + comment;
   }
   return entries;
@@ -45,21 +46,49 @@ const zipEntries = (bytes) => {
 /** The most bytes of one piece of samples. sigrok writes pieces of some megabytes. */
 const MOST_OF_PIECE = 512 * 1024 * 1024;
 
-const contentOf = ({ method, data }) => (method === 8 ? decompressed(data, 'deflate-raw', MOST_OF_PIECE) : data);
+const [STORED, DEFLATED] = [0, 8];
+
+/** The CRC-32 of each byte, by the polynomial of zip archives. */
+const CRC_OF_BYTE = Uint32Array.from({ length: 256 }, (_, byte) => {
+  let crc = byte;
+  for (let bit = 0; bit < 8; bit += 1) crc = crc & 1 ? (crc >>> 1) ^ 0xedb88320 : crc >>> 1;
+  return crc;
+});
+
+const checksumOf = (bytes) => {
+  let crc = 0xffffffff;
+  for (let at = 0; at < bytes.length; at += 1) crc = CRC_OF_BYTE[(crc ^ bytes[at]) & 0xff] ^ (crc >>> 8);
+  return ~crc >>> 0;
+};
+
+/** Returns the bytes of an entry of a zip archive. Throws Unreadable if the entry is damaged, or of another kind than
+ * sigrok writes. */
+const contentOf = async (name, { isSecret, method, data, checksum }) => {
+  const refuse = (why) => {
+    throw new Unreadable(`${quoted(name)} of this session cannot be read: ${why}`);
+  };
+  if (isSecret) refuse('it is encrypted');
+  if (method !== STORED && method !== DEFLATED) refuse(`its method of compression is ${method}, not deflate`);
+  const unpacked = method === STORED ? data : decompressed(data, 'deflate-raw', MOST_OF_PIECE);
+  const content = await Promise.resolve(unpacked).catch((error) => refuse(`it is damaged (${error.message})`));
+  if (content.length > MOST_OF_PIECE) refuse('it has more than 512 MiB');
+  if (checksumOf(content) !== checksum) refuse('it is damaged (its checksum is wrong)');
+  return content;
+};
 
 /** Returns a session of sigrok: its rate in hertz, the bytes of a sample, its channels and the pieces of its samples.
- * Returns null if an archive is none. */
+ * Returns null if an archive is none. Throws Unreadable if its metadata are damaged. */
 const sessionIn = async (bytes) => {
   const entries = zipEntries(bytes);
   const metadata = entries?.get('metadata');
   if (!metadata) return null;
   const fields = {};
-  for (const line of textOf(await contentOf(metadata)).split(/\r?\n/)) {
+  for (const line of textOf(await contentOf('metadata', metadata)).split(/\r?\n/)) {
     const [, name, value] = line.match(/^([^=]*)=(.*)$/) ?? [];
     if (name !== undefined) fields[name.trim().toLowerCase()] ??= value.trim();
   }
   const { capturefile, samplerate, unitsize } = fields;
-  const probes = Object.keys(fields).filter((it) => /^probe[0-9]+$/.test(it)).map((it) => Number(it.slice(5)));
+  const probes = Object.keys(fields).filter((it) => /^probe[1-9][0-9]*$/.test(it)).map((it) => Number(it.slice(5)));
   const [rate, size] = [hertz(samplerate ?? ''), Number(unitsize)];
   const numberOf = (name) => Number(name.slice(capturefile.length + 1));
   const isPiece = (name) => name === capturefile || /^-[0-9]+$/.test(name.slice(capturefile.length));
@@ -69,16 +98,16 @@ const sessionIn = async (bytes) => {
   if (probes[probes.length - 1] > 8 * size) return null;
   names.sort((a, b) => numberOf(a) - numberOf(b));
   const channels = probes.map((it) => ({ bit: it - 1, name: fields[`probe${it}`] }));
-  return { rate, size, channels, pieces: names.map((it) => entries.get(it)) };
+  return { rate, size, channels, pieces: names.map((it) => [it, entries.get(it)]) };
 };
 
 /** Reads the samples of one channel of a session. */
 const takeSamples = async (recording, { rate, size, channels, pieces }, tell) => {
   const { bit } = channels[Number(recording.picked.key)];
   let [before, last] = [0, null];
-  for (const [n, piece] of pieces.entries()) {
+  for (const [n, [name, piece]] of pieces.entries()) {
     tell(n / pieces.length);
-    const samples = await contentOf(piece);
+    const samples = await contentOf(name, piece);
     const end = Math.floor(samples.length / size);
     for (let i = 0, at = bit >> 3; i < end; i += 1, at += size) {
       const level = (samples[at] >> (bit & 7)) & 1;
@@ -91,27 +120,41 @@ const takeSamples = async (recording, { rate, size, channels, pieces }, tell) =>
   }
 };
 
-/** Returns the half-bits of a session, its channels, and the channel that was read. */
-const readSession = async (session, key, tell) => {
+/** Returns the half-bits of a session, its channels, and the channel that was read. Returns null if an archive is no
+ * session. */
+const readSession = async (bytes, key, tell) => {
   const recording = new Recording();
-  for (const { name } of session.channels) recording.add(name);
-  recording.pick(key);
   let sentence = null;
   try {
+    const session = await sessionIn(bytes);
+    if (!session) return null;
+    for (const { name } of session.channels) recording.add(name);
+    recording.pick(key);
     await takeSamples(recording, session, tell);
     sentence = recording.fault();
   } catch (error) {
-    sentence = `the samples cannot be decompressed: ${error.message}`;
+    if (!(error instanceof Unreadable)) throw error;
+    sentence = error.message;
   }
   return resultOf('Session', recording, sentence);
 };
 
-/** Returns a file without the compression of gzip. A file that is no gzip file stays as it is. */
-const withoutGzip = async (bytes) => {
-  if (bytes[0] !== 0x1f || bytes[1] !== 0x8b) return bytes;
+const isGzip = (bytes) => beginsWith(bytes, 0x1f, 0x8b);
+
+/** Returns the bytes of a file without the compression of gzip. If a gzip file is damaged, the result has a sentence
+ * and no bytes. */
+const withoutGzip = async (file) => {
+  if (!isGzip(file)) return { bytes: file };
+  const refuse = (sentence) => ({ bytes: new Uint8Array(), sentence });
   try {
-    return await decompressed(bytes, 'gzip', MOST_BYTES + 1);
-  } catch {
-    return bytes;
+    const bytes = await decompressed(file, 'gzip', MOST_BYTES + 1);
+    return isGzip(bytes) ? refuse('this gzip file has another gzip file in it: decompress it first') : { bytes };
+  } catch (error) {
+    return refuse(`this gzip file is damaged, or cut (${error.message})`);
   }
 };
+
+/** Returns the half-bits of a file in any form, up to its first error. Calls `tell` with the part that is read, from 0
+ * to 1. */
+const readFile = async (bytes, key, tell) =>
+  (isZip(bytes) ? await readSession(bytes, key, tell) : null) ?? readBytes(bytes, key, tell);

@@ -97,11 +97,13 @@ class Sides {
     Object.assign(this, { dcc, work, drawn: [], compared: [], difference: null });
   }
 
-  /** Shows the difference, or the input that is missing for it. */
-  async show(captures, decoder, zoom) {
-    const lack = !decoder
-      ? 'Name a decoder, for example s3, l1000 or b12.'
-      : captures.some((it) => !it?.halves.count) && 'Enter a second capture in the field above.';
+  /** Shows the difference, or what lacks for it. */
+  async show(captures, decoder, zoom, otherLack) {
+    const isEmpty = captures.some((it) => !it?.halves.count);
+    const lack =
+      otherLack ||
+      (!decoder && 'Name a decoder, for example s3, l1000 or b12.') ||
+      (isEmpty && 'Enter a second capture in the field above.');
     if (lack) {
       this.work.drop('comparison');
       return this.draw([lack], []);

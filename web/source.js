@@ -8,6 +8,16 @@ const make = (name, className, text) => {
   return it;
 };
 
+/** Lets the user save parts of a text as a file. */
+const download = (name, parts) => {
+  const link = make('a');
+  link.href = URL.createObjectURL(new Blob([...parts], { type: 'text/plain' }));
+  link.download = name;
+  link.click();
+  // a browser can begin to read it later
+  setTimeout(() => URL.revokeObjectURL(link.href), 60000);
+};
+
 class Source {
   /** Creates the input. The ids of its elements begin with a prefix. It calls `use` with each capture. */
   constructor(prefix, work, use) {
@@ -32,6 +42,15 @@ class Source {
     this.file = null;
     this.part('text').value = text;
     return this.read();
+  }
+
+  /** Empties the field, and reads no more of what it had. */
+  clear() {
+    clearTimeout(this.timer);
+    this.work.drop(this.place);
+    this.file = null;
+    this.part('text').value = '';
+    this.offerChannels({});
   }
 
   /** Opens a file. A large file is shown only as packets, not in the field. */

@@ -1,11 +1,13 @@
 // The table of packets and refusals: a page of its rows. Below the chosen row are the numbers of its turnout and the
 // state of a decoder.
 
+/** The number of rows that are shown while a capture grows. */
+const ROWS_OF_LIVE = 8;
+
 class Table extends Grid {
   constructor(dcc) {
     super(dcc, $('rows'));
-    this.zoom = 1;
-    this.first = 0;
+    Object.assign(this, { zoom: 1, first: 0, isLive: false });
     const [start, end] = [() => 0, () => Infinity];
     const pages = { start, back: () => this.first - ROWS_OF_PAGE, on: () => this.first + ROWS_OF_PAGE, end };
     for (const [id, to] of Object.entries(pages)) $(id).addEventListener('click', () => this.turn(to()));
@@ -18,9 +20,12 @@ class Table extends Grid {
   /** Shows rows of a capture, and the state of a decoder or null. The half-bits after the last outcome are shown if
    * the filter matches them. */
   show(capture, rows, decoder, withTail) {
-    const chosen = this.capture === capture && this.chosen !== null ? this.rows[this.chosen].last : null;
+    // a capture that grew is another object with the same items
+    const isSame = this.capture?.items[0] === capture.items[0];
+    const chosen = isSame && this.chosen !== null ? this.rows[this.chosen].last : null;
     Object.assign(this, { capture, rows, withTail, chosen: null, half: null });
     this.decoder = decoder && { ...decoder, hearing: new Hearing(this.dcc, decoder.fresh, capture.outcomes) };
+    if (this.isLive) return this.turn(0);
     // the row that was chosen, or the last row before it; with a decoder, at least the first row
     const n = chosen === null ? -1 : rows.findLastIndex((it) => it.first <= chosen);
     this.turn(Math.max(0, n));
@@ -30,6 +35,10 @@ class Table extends Grid {
   /** Shows a page of rows, from one row on. */
   turn(first) {
     const { rows } = this;
+    if (this.isLive) {
+      $('rows').replaceChildren();
+      return this.grow();
+    }
     const last = Math.max(0, Math.floor((rows.length - 1) / ROWS_OF_PAGE) * ROWS_OF_PAGE);
     this.first = Math.min(Math.max(0, Math.floor(first / ROWS_OF_PAGE) * ROWS_OF_PAGE), last);
     const end = Math.min(rows.length, this.first + ROWS_OF_PAGE);
@@ -45,9 +54,48 @@ class Table extends Grid {
     else if (list.length) list[0].tabIndex = 0;
   }
 
+  /** Shows the newest rows of a capture that grows, the last row first, and the state of the decoder above them. Keeps
+   * the drawings of rows that are shown already, and returns the number of those that are drawn. */
+  grow() {
+    const { rows } = this;
+    const focused = document.activeElement?.closest('#rows [data-row]');
+    if (focused) {
+      this.choose(Number(focused.dataset.row));
+      return 0;
+    }
+    this.first = Math.max(0, rows.length - ROWS_OF_LIVE);
+    $('pager').hidden = true;
+    const shown = new Set();
+    for (const it of $('rows').querySelectorAll('[data-row]')) {
+      const n = Number(it.dataset.row);
+      it.tabIndex = -1;
+      if (n >= this.first && it.look === this.lookOf(n)) shown.add(n);
+      else it.remove();
+    }
+    const added = [];
+    for (let n = rows.length - 1; n >= this.first; n -= 1) if (!shown.has(n)) added.push(this.row(n));
+    const isOpen = $('rows').querySelector('.detail .text')?.open;
+    $('rows').querySelector('.detail')?.remove();
+    $('rows').prepend(...added);
+    showEnds(...added);
+    if (rows.length) this.element(rows.length - 1).tabIndex = 0;
+    const last = this.items[this.items.length - 1];
+    if (this.decoder && last) {
+      $('rows').prepend(this.detailOf(this.tellState(last, this.capture.outcomes.length)));
+      $('rows').querySelector('.detail .text').open = isOpen;
+    }
+    return added.length;
+  }
+
+  /** Returns what can change in a row while the capture grows. */
+  lookOf(n) {
+    const { first, times } = this.rows[n];
+    return [times, ...(this.items[first].gaps ?? []).map(gapText)].join();
+  }
+
   row(n) {
     const { first, last, times } = this.rows[n];
-    const row = this.draw(n, first, this.zoom);
+    const row = Object.assign(this.draw(n, first, this.zoom), { look: this.lookOf(n) });
     if (times > 1) {
       const { at, time } = this.items[last];
       const repeats = `${count(times)} times, the last at ${at}, ${milliseconds(time)}`;
@@ -75,25 +123,31 @@ class Table extends Grid {
     return n !== null && n >= this.first && n < Math.min(this.rows.length, this.first + ROWS_OF_PAGE);
   }
 
-  /** Chooses a row. Shows below it the numbers of its turnout, and the state of the decoder after its last packet. */
+  /** Chooses a row, and pauses a capture that grows. Shows below the row the numbers of its turnout, and the state of
+   * the decoder after its last packet. */
   choose(n) {
     if (!this.rows.length) return;
+    const { isLive } = this;
+    if (isLive) this.pause();
     if (!this.isShown(n)) this.turn(n);
     $('rows').querySelector('.detail')?.remove();
     super.choose(n);
-    this.element(n).after(this.detailRow(n));
+    const item = this.items[this.rows[n].last];
+    const turnout = item.refusal ? '' : turnoutSentence(this.dcc.packetOf(item.bytes));
+    const state = this.tellState(item, item.heard);
+    this.element(n).after(this.detailOf(turnout ? [make('p', 'turnout', turnout), ...state] : state));
     if (this.half !== null) this.chooseHalf(this.half);
+    if (!isLive) return;
+    this.element(n).scrollIntoView({ block: 'center' });
+    this.element(n).focus();
   }
 
-  detailRow(n) {
+  detailOf(parts) {
     const row = make('tr', 'detail');
     row.setAttribute('role', 'row');
     const held = cell('td', 'held');
     held.colSpan = 3;
-    const item = this.items[this.rows[n].last];
-    const turnout = item.refusal ? '' : turnoutSentence(this.dcc.packetOf(item.bytes));
-    if (turnout) held.append(make('p', 'turnout', turnout));
-    held.append(...this.tellState(item, item.heard));
+    held.append(...parts);
     row.append(held);
     return row;
   }

@@ -47,13 +47,6 @@ const listOfHalf = (us) => {
   return us < 52 ? 'below' : us < 90 ? 'between' : 'above';
 };
 
-/** Returns how often each duration occurs, by the duration. */
-const countDurations = (halves) => {
-  const counts = new Uint32Array(LONGEST + 1);
-  for (let at = 0; at < halves.count; at += 1) counts[halves.us[at]] += 1;
-  return counts;
-};
-
 /** Adds the bits from one place up to another place, which is excluded. A bit is a pair of half-bits. */
 const takeBits = ({ us }, from, to, { differences, sums }) => {
   for (let at = from; at < to; at += 2) {
@@ -65,49 +58,87 @@ const takeBits = ({ us }, from, to, { differences, sums }) => {
 /** The greatest preamble that is counted exactly, in half-bits. */
 const MOST_PREAMBLE = 65535;
 
-/** Returns the shortest preamble of the packets that are seen or lost, in half-bits of ones that no outcome uses.
- * Returns null if there are no such packets. A half-bit counts as half of a one by the limits of lost packets. */
-const shortestPreamble = (halves, outcomes, packets, lost) => {
-  let [least, before] = [null, 0];
-  for (const { at, bytes, lost: causes } of [packets, lost].flat()) {
-    const start = at - 18 * bytes.length - 2;
-    // the number of outcomes that end before this body
-    while (before > 0 && outcomes[before - 1].at > start) before -= 1;
-    while (before < outcomes.length && outcomes[before].at <= start) before += 1;
-    const used = before ? outcomes[before - 1].at - onesLeft(outcomes[before - 1]) : 0;
-    // an unfinished body can use the ones of a preamble that is too short
-    const ones = causes?.preamble?.ones ?? start - preambleBefore(halves, start, used, nearestClassOf);
-    least = Math.min(least ?? MOST_PREAMBLE, ones);
-  }
-  return least;
+/** Returns the figures of half-bits from the number of each duration. */
+const figuresOf = (counts) => {
+  const figures = Object.fromEntries(FIGURES.map((it) => [it, new Figure()]));
+  counts.forEach((n, us) => n && figures[listOfHalf(us)].take(us, n));
+  return figures;
 };
 
-/** Returns the statistics of a capture. */
-const timingsOf = (halves, outcomes, lost = []) => {
-  const figures = Object.fromEntries(FIGURES.map((it) => [it, new Figure()]));
-  const gaps = new Figure();
-  const counts = countDurations(halves);
-  counts.forEach((n, us) => n && figures[listOfHalf(us)].take(us, n));
-  // the limits are compared with all half-bits but those of RailCom cutouts
-  const cutouts = [outcomes, lost].flatMap((it) => cutoutsOf(halves, it));
-  const others = counts.slice();
-  for (const at of cutouts) for (const it of [at, at + 1]) others[halves.us[it]] -= 1;
-  const judged = Object.fromEntries(FIGURES.map((it) => [it, figures[it]]));
-  for (const it of ['ones', 'zeros', 'below', 'between', 'above']) judged[it] = new Figure();
-  others.forEach((n, us) => n && judged[listOfHalf(us)].take(us, n));
-  const packets = outcomes.filter((it) => !it.refusal);
-  packets.forEach(({ at, bytes, time }, i) => {
+/** Statistics of half-bits and packets that come part by part. */
+class Timings {
+  constructor() {
+    const counts = new Uint32Array(LONGEST + 1);
+    // the half-bits of each duration, those of RailCom cutouts, and the places up to which each list is read
+    Object.assign(this, { counts, ofCutouts: counts.slice(), halves: 0, outcomes: 0, lost: 0 });
+    Object.assign(this, { packets: 0, refused: [0, 0, 0, 0, 0], preamble: null, before: 0, last: null });
+    Object.assign(this, { cutouts: 0, cutoutsRead: [0, 0], bits: { differences: new Figure(), sums: new Figure() } });
+    this.gaps = new Figure();
+  }
+
+  /** Adds the half-bits, outcomes and lost packets that have come since the last call. */
+  take(halves, outcomes, lost) {
+    for (; this.halves < halves.count; this.halves += 1) this.counts[halves.us[this.halves]] += 1;
+    for (const it of outcomes.slice(this.outcomes)) this.takeOutcome(halves, outcomes, it);
+    for (const it of lost.slice(this.lost)) this.takePreamble(halves, outcomes, it);
+    Object.assign(this, { outcomes: outcomes.length, lost: lost.length });
+    [outcomes, lost].forEach((it, i) => this.takeCutouts(halves, it, i));
+    return this;
+  }
+
+  takeOutcome(halves, outcomes, outcome) {
+    const { at, bytes, time, refusal } = outcome;
+    if (refusal) {
+      this.refused[refusal - 1] += 1;
+      return;
+    }
     // the body of the packet and the ten ones before it
-    takeBits(halves, at - 18 * bytes.length - 2 - PREAMBLE_HALVES, at, figures);
-    if (i) gaps.take(time - packets[i - 1].time);
-  });
-  const refused = [1, 2, 3, 4, 5].map((cause) => outcomes.filter((it) => it.refusal === cause).length);
-  const time = ['ones', 'zeros', 'below', 'between', 'above'].reduce((sum, it) => sum + figures[it].sum, 0);
-  const gap = gaps.count ? gaps.most : null;
-  const preamble = shortestPreamble(halves, outcomes, packets, lost);
-  const told = { halves: halves.count, time, packets: packets.length, refused, lost: lost.length, preamble, gap };
-  return { ...told, figures, judged, counts: others, cutouts: cutouts.length };
-};
+    takeBits(halves, at - 18 * bytes.length - 2 - PREAMBLE_HALVES, at, this.bits);
+    this.takePreamble(halves, outcomes, outcome);
+    if (this.packets) this.gaps.take(time - this.last);
+    this.packets += 1;
+    this.last = time;
+  }
+
+  /** Adds the preamble of a packet that is seen or lost, in half-bits of ones that no outcome uses. A half-bit counts
+   * as half of a one by the limits of lost packets. */
+  takePreamble(halves, outcomes, { at, bytes, lost: causes }) {
+    const start = at - 18 * bytes.length - 2;
+    // the number of outcomes that end before this body
+    while (this.before > 0 && outcomes[this.before - 1].at > start) this.before -= 1;
+    while (this.before < outcomes.length && outcomes[this.before].at <= start) this.before += 1;
+    const outcome = outcomes[this.before - 1];
+    const used = outcome ? outcome.at - onesLeft(outcome) : 0;
+    // an unfinished body can use the ones of a preamble that is too short
+    const ones = causes?.preamble?.ones ?? start - preambleBefore(halves, start, used, nearestClassOf);
+    this.preamble = Math.min(this.preamble ?? MOST_PREAMBLE, ones);
+  }
+
+  /** Adds the half-bits of RailCom cutouts after packets. A cutout may not be complete yet. */
+  takeCutouts(halves, items, i) {
+    for (; this.cutoutsRead[i] < items.length; this.cutoutsRead[i] += 1) {
+      const { at, refusal } = items[this.cutoutsRead[i]];
+      if (at + 1 >= halves.count) return;
+      if (refusal || !isCutout(halves, at)) continue;
+      this.cutouts += 1;
+      for (const it of [at, at + 1]) this.ofCutouts[halves.us[it]] += 1;
+    }
+  }
+
+  /** Returns the statistics. The limits are compared with all half-bits but those of RailCom cutouts. */
+  told() {
+    const { halves, packets, refused, lost, preamble, bits, cutouts } = this;
+    const counts = this.counts.map((n, us) => n - this.ofCutouts[us]);
+    const figures = { ...figuresOf(this.counts), ...bits };
+    const time = ['ones', 'zeros', 'below', 'between', 'above'].reduce((sum, it) => sum + figures[it].sum, 0);
+    const gap = this.gaps.count ? this.gaps.most : null;
+    const judged = { ...figuresOf(counts), ...bits };
+    return { halves, time, packets, refused, lost, preamble, gap, figures, judged, counts, cutouts };
+  }
+}
+
+/** Returns the statistics of a capture. */
+const timingsOf = (halves, outcomes, lost = []) => new Timings().take(halves, outcomes, lost).told();
 
 /** Returns the statistics as the text of `dcc timing`. */
 const timingText = ({ halves, time, packets, refused, lost, preamble, gap, figures }) => {

@@ -101,14 +101,15 @@ const faultOf = (halves, outcome, parts) => {
 /** Adds the half-bits before the start bit: the preamble, and half-bits of no packet. Of many half-bits the first are
  * hidden. */
 const withLead = (halves, strip) => {
-  const { begin, start, end, isLost } = strip;
-  const preamble = preambleBefore(halves, start, begin, isLost ? nearestClassOf : classOf);
+  const { begin, start, end, isLost, least = begin } = strip;
+  const preamble = preambleBefore(halves, start, least, isLost ? nearestClassOf : classOf);
   const from = Math.max(begin, start - MOST_LEAD);
   const lead = [];
   const cutout = strip.isAfterPacket && from === begin && isCutout(halves, begin) ? begin : null;
   const free = cutout === null ? from : begin + 2;
   if (cutout !== null) lead.push({ kind: 'none', from, to: free, label: 'RailCom cutout' });
-  if (free < preamble) lead.push({ kind: 'none', from: free, to: preamble, label: 'no packet' });
+  // half-bits before a lost packet can be those of another packet
+  if (free < preamble) lead.push({ kind: 'none', from: free, to: preamble, label: isLost ? '' : 'no packet' });
   if (preamble < start) {
     const ones = plural(Math.floor((start - preamble) / 2), 'one');
     // fewer than 20 half-bits are enough if those of the end bit before make up the rest
@@ -128,7 +129,10 @@ const lostStripOf = (halves, item, previous) => {
   const { parts, bits } = bodyParts(halves, start, end, nearestClassOf);
   labelBytes(parts);
   parts.filter((it) => it.kind === 'byte')[item.bytes.length - 1].kind = 'error';
-  return withLead(halves, { begin, start, end, parts, bits, fault: causeOf(halves, item, start), isLost: true });
+  // half-bits of ones that another packet uses are no part of a preamble that is too short
+  const { preamble } = item.lost;
+  const least = preamble ? start - preamble.ones : begin;
+  return withLead(halves, { begin, start, end, parts, bits, fault: causeOf(halves, item, start), isLost: true, least });
 };
 
 /** Returns the half-bits from the end of the item before to the end of this one, with their parts. */

@@ -67,11 +67,11 @@ const unpackOutcomes = (dcc, { at, time, refusal, frame, frames }) => {
 const JOBS = {
   /** Reads a text or a file, and returns its half-bits, its outcomes, and its text if a field shows it. */
   async read(dcc, { input, key, isShown }, tell) {
-    const bytes = await withoutGzip(await bytesOf(input, (part) => tell('read from the disk', part)));
+    const file = await bytesOf(input, (part) => tell('read from the disk', part));
+    const { bytes, sentence } = await withoutGzip(file);
     const text = isShown && bytes.length <= LARGEST_SHOWN ? textOf(bytes) : '';
-    const session = bytes[0] === 0x50 && bytes[1] === 0x4b ? await sessionIn(bytes) : null;
     const tellRead = (part) => tell('read', part);
-    const { halves, ...read } = session ? await readSession(session, key, tellRead) : readBytes(bytes, key, tellRead);
+    const { halves, ...read } = sentence ? refusedFile(sentence) : await readFile(bytes, key, tellRead);
     // the bytes are freed before the outcomes need memory, if the browser can do this
     bytes.buffer.transfer?.(0);
     const outcomes = dcc.outcomes(halves, (part) => tell('searched for packets', part));

@@ -17,6 +17,9 @@ export function frame(text: string): Uint8Array;
 /** Returns the packet line of the bytes of a frame: `loco s3 speed28 f 4`. */
 export function line(frame: Bytes): string;
 
+/** Returns the plain words of the bytes of a packet, as `dcc show --plain` writes them. A packet has 3 to 15 bytes. */
+export function plain(packet: Bytes): string;
+
 /** The fields of a packet. An address is `all`, `s` with a short address, or `l` with a long address. */
 export type Packet =
   | { kind: 'idle' | 'other' }
@@ -31,6 +34,23 @@ export type Packet =
 
 /** Returns the fields of the packet of a frame. */
 export function read(frame: Bytes): Packet;
+
+/** Returns the bytes of the frame of a packet with these fields. */
+export function packetFrame(packet: Packet): Uint8Array;
+
+/** The fields of a service packet. */
+export type ServicePacket =
+  | { kind: 'write' | 'verify'; cv: number; value: number }
+  | { kind: 'bitwrite' | 'bitverify'; cv: number; place: number; one: boolean };
+
+/** Returns the bytes of the frame of a service packet. */
+export function serviceFrame(packet: ServicePacket): Uint8Array;
+
+/** Returns the fields of the service packet that has this frame, or null. */
+export function readService(frame: Bytes): ServicePacket | null;
+
+/** Returns the eight frames in which a station asks a question of a Reader or a Writer. */
+export function questionFrames(question: Bytes): Uint8Array[];
 
 /** The half-bits of a one and of a zero in microseconds, and the number of ones in the preamble. */
 export interface Timing {
@@ -102,10 +122,49 @@ export class Lost {
 export class LostFinder {
   /** Takes equal half-bits. Returns the packets that are lost among them. */
   push(us: number, count?: number): Lost[];
+  /** Takes half-bits in order. Returns the packets that are lost in them. */
+  pushMany(halves: Uint16Array | Iterable<number>): Lost[];
 }
 
 /** Returns the packets in half-bits that a decoder does not hear. */
 export function lost(halves: Iterable<number>): Lost[];
+
+/** The count, the sum, the least, the greatest and the mean of some durations in microseconds. */
+export interface Tally {
+  readonly count: number;
+  readonly sum: number;
+  readonly least: number | null;
+  readonly most: number | null;
+  readonly mean: number | null;
+}
+
+/** The statistics that `dcc timing` writes for half-bits. */
+export interface Statistics {
+  readonly halves: number;
+  readonly time: number;
+  readonly packets: number;
+  readonly refused: Readonly<Record<'H1' | 'H2' | 'H3' | 'H4' | 'H5', number>>;
+  readonly lost: number;
+  readonly preamble: number | null;
+  readonly gap: number | null;
+  readonly below: Tally;
+  readonly ones: Tally;
+  readonly between: Tally;
+  readonly zeros: Tally;
+  readonly above: Tally;
+  readonly differences: Tally;
+  readonly sums: Tally;
+}
+
+/** Computes the statistics of half-bits that come one by one. */
+export class Meter {
+  push(us: number, count?: number): void;
+  pushMany(halves: Uint16Array | Iterable<number>): void;
+  statistics(): Statistics;
+}
+
+/** Returns the statistics of half-bits. */
+export function timing(halves: Uint16Array | Iterable<number>): Statistics;
 
 /** Returns the half-bits of a capture. */
 export function durations(capture: string | Uint8Array): Uint16Array;
@@ -137,6 +196,44 @@ export class Board {
   toString(): string;
 }
 
+/** The answer of a decoder on both tracks: the CV whose value changed, or null. */
+export interface Answer {
+  readonly acknowledged: boolean;
+  readonly changed: number | null;
+}
+
+/** A locomotive decoder on the main track and on the programming track. */
+export class TrackLoco {
+  constructor(cvs: Cvs);
+  hear(frame: Bytes): Answer;
+  endService(): void;
+  setMainOnly(mainOnly: boolean): void;
+  readonly isInService: boolean;
+  readonly address: string | null;
+  readonly speed: 'stop' | 'emergency' | { step: number; steps: 14 | 28 | 126 };
+  readonly isForward: boolean;
+  readonly functions: number[];
+  readonly states: number[];
+  readonly pending: Uint8Array | null;
+  readonly cvs: Uint8Array;
+  toString(): string;
+}
+
+/** An accessory decoder on the main track and on the programming track. */
+export class TrackBoard {
+  constructor(cvs: Cvs);
+  hear(frame: Bytes): Answer;
+  endService(): void;
+  setMainOnly(mainOnly: boolean): void;
+  readonly isInService: boolean;
+  readonly number: number;
+  readonly outputs: number[];
+  readonly positions: number[];
+  readonly aspects: number[];
+  readonly cvs: Uint8Array;
+  toString(): string;
+}
+
 /** A decoder on the programming track. */
 export class Service {
   constructor(cvs: Cvs);
@@ -154,11 +251,31 @@ export class Reader {
   answer(yes: boolean): number | null;
 }
 
+/** The writing of a CV by two questions. */
+export class Writer {
+  constructor(cv: number, value: number);
+  question(): Uint8Array;
+  /** Returns null after the first question. After the second, returns true if the CV has the byte. */
+  answer(yes: boolean): boolean | null;
+}
+
+/** The functions of a locomotive that a station remembers. */
+export class Functions {
+  /** Turns a function on or off. Returns the frame that sets the group of the function. */
+  turn(address: string, number: number, on: boolean): Uint8Array;
+  isOn(number: number): boolean;
+  readonly on: number[];
+}
+
 /** A command station. */
 export class Station {
   constructor(sizes?: { queue?: number; slots?: number; repeats?: number });
   command(frame: Bytes): void;
   next(): Uint8Array;
+  /** Stops all locomotives. Returns the number of waiting commands that it removes. */
+  stop(): number;
+  /** Removes the entries with an address. */
+  forget(address: string): void;
   readonly waiting: number;
   readonly entries: number;
 }

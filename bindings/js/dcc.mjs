@@ -1,7 +1,7 @@
 // SPDX-License-Identifier: MIT OR Apache-2.0
 /**
- * Digital Command Control (DCC) for JavaScript: packets in half-bits, packet lines, frames, decoders, service mode, a
- * command station.
+ * Digital Command Control (DCC) for JavaScript: packets in half-bits, statistics, packet lines, frames, decoders,
+ * service mode, a command station.
  *
  * The module dcc.wasm is the library for C, compiled for 32-bit WebAssembly. Its functions are proved (docs/C.md).
  * This file calls them. This file and the conversion to 32 bits are tested, not proved.
@@ -21,7 +21,8 @@ const calls = instance.exports;
 const OBJECT_BYTES = 1801;
 const MANY = 32768;
 const sizes = {
-  object: OBJECT_BYTES, frame: 7, lost: 28, out: 32, line: 41, cvs: 1024, timing: 8, taken: 8, halves: 2 * MANY,
+  object: OBJECT_BYTES, frame: 7, lost: 28, out: 32, line: 41, packet: 16, text: 256, cvs: 1024, timing: 8, taken: 8, statistics: 280,
+  halves: 2 * MANY,
 };
 const places = {};
 let end = (calls.__heap_base.value + 15) & ~15;
@@ -103,6 +104,21 @@ const withObject = (object, call) => {
 };
 
 const LOCO_OR_NONE = ['', 's', 'l'];
+
+/** Returns the kind and the number of an address: 'all', 's3' or 'l1000'. Errors: Refused with P10 if the text is none
+ * of these, P11 if its number is above 65535. */
+const addressOf = (address) => {
+  if (checkedText('an address', address) === 'all') return [0, 0];
+  const [, kind, digits] = /^([sl])([0-9]{1,5})$/.exec(address) ?? [];
+  if (kind === undefined) throw new Refused('P10');
+  if (Number(digits) > HIGHEST) throw new Refused('P11');
+  return [LOCO_OR_NONE.indexOf(kind), Number(digits)];
+};
+
+const checkedBool = (name, value) => {
+  if (typeof value !== 'boolean') throw new TypeError(`${name} is true or false`);
+  return value ? 1 : 0;
+};
 const hex = (bytes) => [...bytes].map((it) => it.toString(16).padStart(2, '0')).join('');
 const ones = (bytes, count) => [...Array(count).keys()].filter((n) => (bytes[n >> 3] >> (n & 7)) & 1);
 
@@ -120,6 +136,16 @@ export const frame = (text) => {
 export const line = (bytes) => {
   check(calls.dcc_line(...laid(bytes), places.line), 'L');
   const text = memory.subarray(places.line, places.line + sizes.line);
+  return String.fromCharCode(...text.subarray(0, text.indexOf(0)));
+};
+
+/** Returns the plain words of the bytes of a packet, as `dcc show --plain` writes them. A packet has 3 to 15 bytes. */
+export const plain = (bytes) => {
+  const packet = checkedBytes('a packet', bytes);
+  // all packets of more than 15 bytes are refused in the same way
+  memory.set(packet.subarray(0, 16), places.packet);
+  check(calls.dcc_plain(places.packet, BigInt(packet.length), places.text), 'L');
+  const text = memory.subarray(places.text, places.text + sizes.text);
   return String.fromCharCode(...text.subarray(0, text.indexOf(0)));
 };
 
@@ -155,6 +181,88 @@ export const read = (bytes) => {
   if (kind === 'cv write' || kind === 'cv verify') packet.value = memory[at + 12];
   if (kind.startsWith('cv bit')) Object.assign(packet, { place: memory[at + 13], one: memory[at + 14] === 1 });
   return packet;
+};
+
+/** Writes the fields of a packet or of a service packet into the memory: the place of each field and its value. */
+const writeBytes = (at, fields) => fields.forEach(([place, value]) => { memory[at + place] = value; });
+
+/** Returns the bytes of the frame of a packet with these fields. `read` returns these fields for the frame. A packet
+ * of the kind 'other' has no fields, so its frame cannot be made of them.
+ *
+ * Errors: Refused with P10 if there is no such kind or group, or with the code of a field, as for a packet line. */
+export const packetFrame = (packet) => {
+  if (packet === null || typeof packet !== 'object') throw new TypeError('a packet is an object');
+  const kind = KINDS.indexOf(packet.kind);
+  if (kind < 0 || packet.kind === 'other') throw new Refused('P10');
+  const [at, numbers] = [places.out, view()];
+  const byte = (name) => checkedNumber(`the field ${name}`, packet[name], 0, 255);
+  const bool = (name) => checkedBool(`the field ${name}`, packet[name]);
+  const word = (name, place) => {
+    numbers.setUint16(at + place, checkedNumber(`the field ${name}`, packet[name], 0, HIGHEST), true);
+  };
+  memory.fill(0, at, at + 18);
+  memory[at] = kind;
+  if (kind >= 1 && kind <= 9) {
+    const [to, address] = addressOf(packet.address);
+    memory[at + 1] = to;
+    numbers.setUint16(at + 2, address, true);
+  }
+  if (kind === 2 || kind === 3) writeBytes(at, [[4, bool('forward')], [5, byte('bits')]]);
+  if (kind === 4) writeBytes(at, [[6, byte('group')], [5, byte('bits')]]);
+  if (kind === 5) writeBytes(at, [[7, byte('state')], [8, bool('on')]]);
+  if (kind >= 6 && kind <= 9) word('cv', 10);
+  if (kind === 6 || kind === 7) writeBytes(at, [[12, byte('value')]]);
+  if (kind === 8 || kind === 9) writeBytes(at, [[13, byte('place')], [14, bool('one')]]);
+  if (kind === 10) {
+    word('board', 2);
+    writeBytes(at, [[15, byte('output')], [8, bool('on')]]);
+  }
+  if (kind === 11) {
+    word('signal', 2);
+    writeBytes(at, [[16, byte('aspect')]]);
+  }
+  memory.fill(0, places.frame, places.frame + sizes.frame);
+  check(calls.dcc_frame_of_packet(at, places.frame), 'P');
+  return frameAt(places.frame);
+};
+
+const SERVICE_KINDS = ['write', 'verify', 'bitwrite', 'bitverify'];
+
+/** Returns the bytes of the frame of a service packet, on the programming track (NMRA S-9.2.3): `{ kind, cv, value }`
+ * of the kinds 'write' and 'verify', `{ kind, cv, place, one }` of the kinds 'bitwrite' and 'bitverify'.
+ *
+ * Errors: Refused with P10 if there is no such kind, P6 if the CV is not 1 to 1024, then P7 if the place is above 7. */
+export const serviceFrame = (packet) => {
+  if (packet === null || typeof packet !== 'object') throw new TypeError('a service packet is an object');
+  const kind = SERVICE_KINDS.indexOf(packet.kind);
+  if (kind < 0) throw new Refused('P10');
+  const [at, bits] = [places.out, kind > 1];
+  memory.fill(0, at, at + 6);
+  view().setUint16(at, checkedNumber('the field cv', packet.cv, 0, HIGHEST), true);
+  memory[at + 2] = 6 + kind;
+  if (bits) memory[at + 4] = checkedNumber('the field place', packet.place, 0, 255);
+  if (bits) memory[at + 5] = checkedBool('the field one', packet.one);
+  else memory[at + 3] = checkedNumber('the field value', packet.value, 0, 255);
+  check(calls.dcc_service_frame(at, places.frame), 'P');
+  return frameAt(places.frame);
+};
+
+/** Returns the fields of the service packet that has this frame on the programming track, or null if none has. */
+export const readService = (bytes) => {
+  const at = places.out;
+  const answer = calls.dcc_service_read(...laid(bytes), at);
+  if (answer === 10) return null;
+  check(answer, 'L');
+  const packet = { kind: SERVICE_KINDS[memory[at + 2] - 6], cv: view().getUint16(at, true) };
+  if (memory[at + 2] < 8) return { ...packet, value: memory[at + 3] };
+  return { ...packet, place: memory[at + 4], one: memory[at + 5] === 1 };
+};
+
+/** Returns the eight frames in which a station asks a question of a Reader or a Writer: three resets, and five copies
+ * of the question. Each has a preamble of 20 ones. The answer is yes if the decoder acknowledges any of them. */
+export const questionFrames = (question) => {
+  const bytes = checkedBytes('a frame', question);
+  return [...Array.from({ length: 3 }, () => new Uint8Array(3)), ...Array.from({ length: 5 }, () => bytes.slice())];
 };
 
 /** Returns the half-bits of the bytes of a frame in microseconds, as a list. */
@@ -332,6 +440,71 @@ export class LostFinder {
 /** Returns the packets in half-bits that a decoder does not hear, in order. */
 export const lost = (items) => new LostFinder().pushMany(items);
 
+const TALLIES = ['below', 'ones', 'between', 'zeros', 'above', 'differences', 'sums'];
+
+const tallyAt = (at) => {
+  const number = (place) => Number(view().getBigUint64(at + place, true));
+  const [count, sum] = [number(0), number(8)];
+  if (!count) return { count, sum, least: null, most: null, mean: null };
+  return { count, sum, least: number(16), most: number(24), mean: sum / count };
+};
+
+/** Computes the statistics of half-bits (NMRA S-9.1, S-9.2), which the program writes with `dcc timing`. */
+export class Meter {
+  #meter = new Uint8Array(1104);
+
+  /** Takes equal half-bits of `us` microseconds. A half-bit above 65535 counts as 65535. Errors: RangeError, and
+   * nothing changes, if the meter would have taken 2^32 or more half-bits. */
+  push(us, count = 1) {
+    const half = checkedHalf(us);
+    checkedNumber('a count', count, 1, 0xffffffff);
+    const isTaken = withObject(this.#meter, (at) => calls.dcc_meter_push_run(at, half, count));
+    if (!isTaken) throw new RangeError('a meter takes less than 2^32 half-bits');
+  }
+
+  /** Takes half-bits of these microseconds, in order: an array or a Uint16Array. Errors: those of push. The meter then
+   * takes no item. */
+  pushMany(items) {
+    const all = halvesOf(items);
+    const [room, before] = [new Uint16Array(calls.memory.buffer, places.halves, MANY), this.#meter.slice()];
+    for (let from = 0; from < all.length; from += MANY) {
+      const part = all.subarray(from, from + MANY);
+      room.set(part);
+      const count = BigInt(part.length);
+      if (!withObject(this.#meter, (at) => calls.dcc_meter_push_many(at, places.halves, count))) {
+        this.#meter = before;
+        throw new RangeError('a meter takes less than 2^32 half-bits');
+      }
+    }
+  }
+
+  /** Returns the statistics of all half-bits that the meter has taken (docs/FORMATS.md). All times are in microseconds.
+   * A number that there is not is null. */
+  statistics() {
+    const at = places.statistics;
+    withObject(this.#meter, (meter) => calls.dcc_meter_read(meter, at));
+    const numbers = view();
+    const word = (place) => numbers.getUint32(at + place, true);
+    return {
+      halves: word(264),
+      time: Number(numbers.getBigUint64(at, true)),
+      packets: word(240),
+      refused: Object.fromEntries([1, 2, 3, 4, 5].map((n) => [`H${n}`, word(240 + 4 * n)])),
+      lost: word(268),
+      preamble: memory[at + 274] ? numbers.getUint16(at + 272, true) : null,
+      gap: memory[at + 275] ? Number(numbers.getBigUint64(at + 8, true)) : null,
+      ...Object.fromEntries(TALLIES.map((name, n) => [name, tallyAt(at + 16 + 32 * n)])),
+    };
+  }
+}
+
+/** Returns the statistics of half-bits, as Meter.statistics does. */
+export const timing = (items) => {
+  const meter = new Meter();
+  meter.pushMany(items);
+  return meter.statistics();
+};
+
 /** Returns the half-bits of a capture, which is a string or its bytes (docs/FORMATS.md).
  *
  * Errors: Refused with the text of the program: `U2 line 3: bad number` at a word that is no run, `U7 input too long`
@@ -397,22 +570,18 @@ const applied = (object, bytes, call) => {
   check(answer, answer === 13 ? 'P' : 'L');
 };
 
-/** A locomotive decoder that is powered up with these CVs: 1024 bytes, or an object with numbers and values. */
-export class Loco {
+let [locoOf, boardOf] = [];
+
+/** The registers of a locomotive decoder, at the begin of its object. */
+class LocoRegisters {
   #loco;
 
-  constructor(cvs) {
-    this.#loco = withCvs(cvs, 1072, calls.dcc_loco_new);
+  constructor(loco) {
+    this.#loco = loco;
   }
 
-  /** Applies the packet of a frame. A packet for other decoders changes nothing. */
-  apply(bytes) {
-    applied(this.#loco, bytes, calls.dcc_loco_apply);
-  }
-
-  /** Returns true if the packet of a frame is for this decoder. */
-  hears(bytes) {
-    return isHeard(this.#loco, bytes, calls.dcc_loco_hears);
+  static {
+    locoOf = (it) => it.#loco;
   }
 
   /** The active address: 's3', 'l1000' or null. */
@@ -449,7 +618,7 @@ export class Loco {
 
   /** The values of the CVs, CV1 first. */
   get cvs() {
-    return this.#loco.slice(48);
+    return this.#loco.slice(48, 1072);
   }
 
   /** Returns the lines of the decoder in a decoder text (docs/FORMATS.md). */
@@ -464,26 +633,36 @@ export class Loco {
   }
 }
 
-/** An accessory decoder with all outputs off, with a number of 0 to 510. */
-export class Board {
-  #board = new Uint8Array(12);
-
-  constructor(number) {
-    checkedNumber('a board', number, 0, HIGHEST);
-    check(withObject(this.#board, (at) => calls.dcc_board_new(at, number)), 'P');
+/** A locomotive decoder that is powered up with these CVs: 1024 bytes, or an object with numbers and values. */
+export class Loco extends LocoRegisters {
+  constructor(cvs) {
+    super(withCvs(cvs, 1072, calls.dcc_loco_new));
   }
 
   /** Applies the packet of a frame. A packet for other decoders changes nothing. */
   apply(bytes) {
-    applied(this.#board, bytes, calls.dcc_board_apply);
+    applied(locoOf(this), bytes, calls.dcc_loco_apply);
   }
 
   /** Returns true if the packet of a frame is for this decoder. */
   hears(bytes) {
-    return isHeard(this.#board, bytes, calls.dcc_board_hears);
+    return isHeard(locoOf(this), bytes, calls.dcc_loco_hears);
+  }
+}
+
+/** The registers of an accessory decoder, at the begin of its object. */
+class BoardRegisters {
+  #board;
+
+  constructor(board) {
+    this.#board = board;
   }
 
-  /** The number of the board, 0 to 510. */
+  static {
+    boardOf = (it) => it.#board;
+  }
+
+  /** The number of the board: 0 to 510, or 511 of a decoder that hears only the packets for all boards. */
   get number() {
     return this.#board[0] + 256 * this.#board[1];
   }
@@ -507,6 +686,102 @@ export class Board {
   toString() {
     const rows = [['out', this.outputs], ['position', this.positions], ['aspect', this.aspects]];
     return [`board ${this.number}`, ...rows.map(([name, words]) => [name, ...words].join(' '))].join('\n');
+  }
+}
+
+/** An accessory decoder with all outputs off, with a number of 0 to 510. */
+export class Board extends BoardRegisters {
+  constructor(number) {
+    super(new Uint8Array(12));
+    checkedNumber('a board', number, 0, HIGHEST);
+    check(withObject(boardOf(this), (at) => calls.dcc_board_new(at, number)), 'P');
+  }
+
+  /** Applies the packet of a frame. A packet for other decoders changes nothing. */
+  apply(bytes) {
+    applied(boardOf(this), bytes, calls.dcc_board_apply);
+  }
+
+  /** Returns true if the packet of a frame is for this decoder. */
+  hears(bytes) {
+    return isHeard(boardOf(this), bytes, calls.dcc_board_hears);
+  }
+}
+
+/** Lets a decoder on both tracks hear a frame, and returns its answer. */
+const heard = (object, bytes, call) => {
+  check(withObject(object, (at) => call(at, ...laid(bytes), places.out)), 'L');
+  return { acknowledged: memory[places.out + 2] === 1, changed: view().getUint16(places.out, true) || null };
+};
+
+/** A locomotive decoder on the main track and on the programming track (NMRA S-9.2.3), which is powered up with these
+ * CVs. */
+export class TrackLoco extends LocoRegisters {
+  constructor(cvs) {
+    super(withCvs(cvs, 1088, calls.dcc_decoder_new));
+  }
+
+  /** Hears a frame of either track. Returns whether the decoder acknowledges it, and the number of the CV whose value
+   * changed, or null.
+   *
+   * The reset 00 00 00 stops the decoder and enters service mode. In service mode, service packets reach only the CVs.
+   * Each other frame first ends service mode as endService does. The decoder then hears the frame as on the main track.
+   */
+  hear(bytes) {
+    return heard(locoOf(this), bytes, calls.dcc_decoder_hear);
+  }
+
+  /** Ends service mode. A program calls this function if no packet of service mode comes for 20 milliseconds. If a
+   * service packet changed a CV since service mode began, the decoder powers up with its CVs, and so has its new
+   * address. */
+  endService() {
+    withObject(locoOf(this), calls.dcc_decoder_end_service);
+  }
+
+  /** Keeps the decoder on the main track if `mainOnly` is true: then no frame enters service mode, and the decoder
+   * acknowledges no frame. If the decoder is in service mode, service mode ends first. */
+  setMainOnly(mainOnly) {
+    const only = checkedBool('mainOnly', mainOnly);
+    withObject(locoOf(this), (at) => calls.dcc_decoder_set_main_only(at, only));
+  }
+
+  /** True if the decoder is in service mode. */
+  get isInService() {
+    return locoOf(this)[1072] === 1;
+  }
+}
+
+/** An accessory decoder on the main track and on the programming track (NMRA S-9.2.3), which is powered up with these
+ * CVs. The lower six bits of its number are in CV1, and the upper three bits in CV9. */
+export class TrackBoard extends BoardRegisters {
+  constructor(cvs) {
+    super(withCvs(cvs, 1046, calls.dcc_board_decoder_new));
+  }
+
+  /** Hears a frame of either track, as TrackLoco.hear does. */
+  hear(bytes) {
+    return heard(boardOf(this), bytes, calls.dcc_board_decoder_hear);
+  }
+
+  /** Ends service mode, as TrackLoco.endService does. */
+  endService() {
+    withObject(boardOf(this), calls.dcc_board_decoder_end_service);
+  }
+
+  /** Keeps the decoder on the main track if `mainOnly` is true, as TrackLoco.setMainOnly does. */
+  setMainOnly(mainOnly) {
+    const only = checkedBool('mainOnly', mainOnly);
+    withObject(boardOf(this), (at) => calls.dcc_board_decoder_set_main_only(at, only));
+  }
+
+  /** True if the decoder is in service mode. */
+  get isInService() {
+    return boardOf(this)[1036] === 1;
+  }
+
+  /** The values of the CVs, CV1 first. */
+  get cvs() {
+    return boardOf(this).slice(12, 1036);
   }
 }
 
@@ -556,11 +831,69 @@ export class Reader {
    *
    * Errors: Refused with the code S1 if the decoder did not acknowledge the ninth question. */
   answer(yes) {
-    if (typeof yes !== 'boolean') throw new TypeError('an answer is true or false');
-    const state = withObject(this.#reader, (at) => calls.dcc_reader_answer(at, yes ? 1 : 0, places.out));
+    const is = checkedBool('an answer', yes);
+    const state = withObject(this.#reader, (at) => calls.dcc_reader_answer(at, is, places.out));
     if (state === 2) throw new Refused('S1');
     check(state > 2 ? state : 0, 'P');
     return state === 1 ? memory[places.out] : null;
+  }
+}
+
+/** The writing of a CV on a programming track by two questions (NMRA S-9.2.3). The first question writes the byte, and
+ * the second question verifies that the CV has this byte. */
+export class Writer {
+  #writer = new Uint8Array(4);
+
+  constructor(cv, value) {
+    checkedNumber('a CV', cv, 0, HIGHEST);
+    checkedNumber('a value', value, 0, 255);
+    check(withObject(this.#writer, (at) => calls.dcc_writer_new(at, cv, value)), 'P');
+  }
+
+  /** Returns the frame of the next question. A station sends three resets, and then this frame five times. */
+  question() {
+    check(withObject(this.#writer, (at) => calls.dcc_writer_question(at, places.out)), 'P');
+    return frameAt(places.out);
+  }
+
+  /** Takes the answer to the question: true if the decoder acknowledged it. Returns null after the first question,
+   * whatever the answer is. After the second question, returns true if the decoder acknowledged it, so that the CV has
+   * the byte, and false otherwise. */
+  answer(yes) {
+    const is = checkedBool('an answer', yes);
+    const state = withObject(this.#writer, (at) => calls.dcc_writer_answer(at, is));
+    check(state > 2 ? state : 0, 'P');
+    return [null, true, false][state];
+  }
+}
+
+/** The functions F0 to F68 of a locomotive, all off at first (RCN-212). A packet sets all functions of a group, so a
+ * station that turns one function needs the states of the other functions of the group. */
+export class Functions {
+  #functions = new Uint8Array(16);
+
+  /** Turns a function on or off. Returns the frame to an address, 'all', 's3' or 'l1000', that sets the group of the
+   * function, with the states of all functions of the group. With 14 speed steps, a decoder takes F0 from the packets
+   * of the kind 'speed28', and ignores the F0 of the group.
+   *
+   * Errors: Refused with P1, P2, P10 or P11 if there is no such address, then P13 above function 68. The functions
+   * then do not change. */
+  turn(address, number, on) {
+    const to = addressOf(address);
+    const [it, is] = [checkedNumber('a function', number, 0, 255), checkedBool('the state of a function', on)];
+    check(withObject(this.#functions, (at) => calls.dcc_functions_turn(at, ...to, it, is, places.out)), 'P');
+    return frameAt(places.out);
+  }
+
+  /** Returns true if the function is on. No function above 68 is on. */
+  isOn(number) {
+    const it = checkedNumber('a function', number, 0, 255);
+    return withObject(this.#functions, (at) => calls.dcc_functions_is_on(at, it)) === 1;
+  }
+
+  /** The numbers of the functions that are on. */
+  get on() {
+    return [...Array(69).keys()].filter((it) => this.isOn(it));
   }
 }
 
@@ -587,7 +920,22 @@ export class Station {
     return frameAt(places.out);
   }
 
-  /** The number of waiting commands. */
+  /** Stops all locomotives. The next frames are copies of the emergency stop of all locomotives, as many as of a
+   * command. Removes each waiting command that sets the speed of a locomotive to a step, and returns their number. All
+   * other commands wait. No locomotive moves again before the station gets a command that sets a speed to a step. */
+  stop() {
+    return withObject(this.#station, calls.dcc_station_stop);
+  }
+
+  /** Removes the entries with an address, 's3' or 'l1000', for example when a locomotive leaves the track. The waiting
+   * commands stay. No entry has the address 'all'. Errors: Refused with P1, P2, P10 or P11 if there is no such address.
+   */
+  forget(address) {
+    const to = addressOf(address);
+    check(withObject(this.#station, (at) => calls.dcc_station_forget(at, ...to)), 'P');
+  }
+
+  /** The number of waiting commands. A stop that waits does not count. */
   get waiting() {
     return withObject(this.#station, calls.dcc_station_waiting);
   }

@@ -187,6 +187,7 @@ _meter_push_run = _call("dcc_meter_push_run", _u8, _at(_Meter), _u16, _u32)
 _meter_push_many = _call("dcc_meter_push_many", _u8, _at(_Meter), ctypes.c_void_p, _u64)
 _meter_read = _call("dcc_meter_read", None, _at(_Meter), _at(_Statistics))
 _line = _call("dcc_line", _u8, ctypes.c_char_p, _u64, ctypes.c_char_p)
+_plain = _call("dcc_plain", _u8, ctypes.c_char_p, _u64, ctypes.c_char_p)
 _frame_of_line = _call("dcc_frame_of_line", _u8, ctypes.c_char_p, _u64, _at(_Frame))
 _frame_of_packet = _call("dcc_frame_of_packet", _u8, _at(_Packet), _at(_Frame))
 _sender_start = _call("dcc_sender_start", _u8, _at(_Sender), ctypes.c_char_p, _u64, _at(_Timing))
@@ -311,10 +312,18 @@ def _array(halves):
     return array("H", [min(_number("a half-bit", it, 0), 65535) for it in halves])
 
 
-class Seen(namedtuple("Seen", "at refusal frame")):
-    """A packet or a refusal: the number of its last half-bit, from 1; None or H1 to H5; its bytes.
+def _fixed(halves):
+    """Returns half-bits as an array for the library, and a view of this array. Until the view is closed, no thread can
+    move the array. Errors: those of _number."""
+    halves = _array(halves)
+    return halves, memoryview(halves)
 
-    A refusal H1 to H4 has no bytes."""
+
+class Seen(namedtuple("Seen", "at refusal frame us")):
+    """A packet or a refusal: the number of its last half-bit, from 1; None or H1 to H5; its bytes; its time.
+
+    A refusal H1 to H4 has no bytes. The time is from the first half-bit of the framer to the end of the last half-bit,
+    in microseconds."""
 
     def __str__(self):
         """Returns the line that `dcc show --words` writes."""
@@ -326,42 +335,44 @@ class Framer:
     """Finds packets in half-bits (NMRA S-9.1, S-9.2)."""
 
     def __init__(self):
-        self._framer, self._taken = _framer_new(), 0
+        self._framer, self._taken, self._time = _framer_new(), 0, 0
 
     def push(self, us: int, count: int = 1) -> "Optional[Seen]":
         """Takes equal half-bits, of these microseconds. Returns the packet or refusal that one completes, else None.
 
         A half-bit above 65535 counts as 65535. The count is 1 to 4294967295."""
         us, count = _run(us, count)
-        outcome, before = _Outcome(), self._taken
+        outcome, before, time = _Outcome(), self._taken, self._time
         self._taken += count
+        self._time += us * count
         if not _push_run(self._framer, us, count, outcome):
             return None
-        return _seen_at(before + outcome.at, outcome)
+        return _seen_at(before + outcome.at, time + us * outcome.at, outcome)
 
     def push_many(self, halves: Iterable[int]) -> "List[Seen]":
         """Takes half-bits of these microseconds, in order. Returns a list of their packets and refusals.
 
         A half-bit above 65535 counts as 65535. An array with the type code 'H', as `capture` returns, is taken without
-        a copy.
+        a copy. Until the call returns, an append to this array in another thread raises BufferError.
 
         Errors: TypeError or ValueError if an item is no half-bit. The framer then takes no item."""
-        halves = _array(halves)
-        found, at, count = [], 0, len(halves)
-        place = halves.buffer_info()[0]
-        outcome, taken = _Outcome(), _u64()
-        while at < count:
-            is_end = _push_many(self._framer, place + 2 * at, count - at, outcome, taken)
-            at += taken.value
-            if is_end:
-                found.append(_seen_at(self._taken + at, outcome))
+        halves, view = _fixed(halves)
+        found, at, outcome, taken = [], 0, _Outcome(), _u64()
+        with view:
+            place, count = halves.buffer_info()
+            while at < count:
+                is_end = _push_many(self._framer, place + 2 * at, count - at, outcome, taken)
+                self._time += sum(view[at : at + taken.value])
+                at += taken.value
+                if is_end:
+                    found.append(_seen_at(self._taken + at, self._time, outcome))
         self._taken += at
         return found
 
 
-def _seen_at(at, outcome):
+def _seen_at(at, us, outcome):
     refusal = f"H{outcome.refusal}" if outcome.refusal else None
-    return Seen(at, refusal, bytes(outcome.frame))
+    return Seen(at, refusal, bytes(outcome.frame), us)
 
 
 def seen(halves: Iterable[int]) -> "Iterator[Seen]":
@@ -432,18 +443,18 @@ class Lost:
         """Takes half-bits of these microseconds, in order. Returns a list of the packets that are lost in them.
 
         A half-bit above 65535 counts as 65535. An array with the type code 'H', as `capture` returns, is taken without
-        a copy.
+        a copy. Until the call returns, an append to this array in another thread raises BufferError.
 
         Errors: TypeError or ValueError if an item is no half-bit. The finder then takes no item."""
-        halves = _array(halves)
-        found, done, count = [], 0, len(halves)
-        place = halves.buffer_info()[0]
-        packet, taken = _LostPacket(), _u64()
-        while done < count:
-            is_lost = _lost_push_many(self._lost, place + 2 * done, count - done, packet, taken)
-            done += taken.value
-            if is_lost:
-                found.append(_lost_at(self._taken + done, packet))
+        halves, view = _fixed(halves)
+        found, done, packet, taken = [], 0, _LostPacket(), _u64()
+        with view:
+            place, count = halves.buffer_info()
+            while done < count:
+                is_lost = _lost_push_many(self._lost, place + 2 * done, count - done, packet, taken)
+                done += taken.value
+                if is_lost:
+                    found.append(_lost_at(self._taken + done, packet))
         self._taken += done
         return found
 
@@ -539,12 +550,13 @@ class Meter:
         """Takes half-bits of these microseconds, in order.
 
         A half-bit above 65535 counts as 65535. An array with the type code 'H', as `capture` returns, is taken without
-        a copy.
+        a copy. Until the call returns, an append to this array in another thread raises BufferError.
 
         Errors: those of `push`. The meter then takes no half-bit of the list."""
-        halves = _array(halves)
-        if not _meter_push_many(self._meter, halves.buffer_info()[0], len(halves)):
-            raise Refused("U7 input too long")
+        halves, view = _fixed(halves)
+        with view:
+            if not _meter_push_many(self._meter, *halves.buffer_info()):
+                raise Refused("U7 input too long")
 
     def statistics(self) -> Statistics:
         """Returns the statistics of all half-bits that the meter has taken."""
@@ -792,6 +804,18 @@ def line(frame: Bytes) -> str:
     return room.value.decode()
 
 
+def plain(packet: Bytes) -> str:
+    """Returns the plain words of the bytes of a packet, as `dcc show --plain` writes them.
+
+    >>> plain(bytes.fromhex("036261")), plain(bytes.fromhex("03120a1b"))
+    ('locomotive 3: step 1 of 28, forward', 'locomotive 3: join consist 10')
+
+    Errors: L1 if the packet has not 3 to 15 bytes, L2 if its error byte is wrong."""
+    room, packet = ctypes.create_string_buffer(256), _bytes("a packet", packet)
+    _check(_plain(packet, len(packet), room), "L")
+    return room.value.decode()
+
+
 def frame(text: str) -> bytes:
     """Returns the bytes of the frame of a packet line, the error byte last."""
     found, words = _Frame(), _encoded("a packet line", text)
@@ -1030,7 +1054,7 @@ class _BothTracks:
         acknowledges no frame. If the decoder is in service mode, service mode ends first, as `end_service` ends it. If
         main_only is False, the decoder can hear both tracks.
 
-        On the main track, frames for the short addresses 112 to 127 look like service packets. After a reset, two
+        On the main track, frames for the short addresses 116 to 127 look like service packets. After a reset, two
         copies of the speed packet 7c 3f 85 c6 for address 124 write CV64 of each decoder that can enter service mode.
 
         Errors: TypeError if main_only is not True or False."""

@@ -17,6 +17,8 @@ from typing import List, Optional, Union
 
 MOST_HALVES = 16_777_216
 LONGEST = 65535
+# the most characters of a time and of the unit of a VCD file
+_MOST_OF_TIME, _MOST_OF_UNIT = 100, 20
 
 
 class Unreadable(ValueError):
@@ -166,7 +168,8 @@ class _Vcd:
 
     def end_command(self):
         if self.command == "$timescale":
-            found = re.fullmatch(r"([0-9]+)([a-z]+)", "".join(self.words))
+            text = "".join(self.words)
+            found = re.fullmatch(r"([0-9]+)([a-z]+)", text) if len(text) <= _MOST_OF_UNIT else None
             self.unit = int(found[1]) * _MICROSECONDS.get(found[2], 0) if found else 0
         if self.command == "$var" and self.words[1:2] == ["1"]:
             name, id_ = "".join(self.words[3:5]), (self.words + [""] * 3)[2]
@@ -188,7 +191,7 @@ class _Vcd:
             self.begin()
         if not self.unit:
             raise _Fault("no $timescale, as $timescale 1 ns $end, stands before the times: they have no unit")
-        if not re.fullmatch(r"#[0-9]+", word):
+        if not re.fullmatch(r"#[0-9]+", word) or len(word) > _MOST_OF_TIME:
             self.track.refuse_line(f"{_quoted(word)} is no time")
         time = float(word[1:]) * self.unit
         if time < self.at:
@@ -208,10 +211,10 @@ def _unit_of(title):
 
 
 def _hertz(text):
-    """Returns the hertz of a rate such as 24 MHz."""
-    number = re.match(r"\s*[0-9.]+", text)
+    """Returns the hertz of a rate such as 24 MHz, or 0 if the text is no rate."""
+    number = re.match(r" *([0-9]+(?:\.[0-9]+)?) *(?:[kMGH]|$)", text)
     unit = next((us for it, us in (("G", 1e9), ("M", 1e6), ("k", 1e3)) if it in text), 1)
-    return float(number[0]) * unit if number else 0
+    return float(number[1]) * unit if number else 0
 
 
 _DATE = re.compile(r"[0-9]+-[0-9]+-[0-9]+[T ][0-9]+:[0-9]+:[0-9]+(\.[0-9]+)?(Z| ?[-+][0-9:]+)?")
@@ -246,7 +249,7 @@ class _Csv:
             self.rate = _hertz(rate[1])
         told = re.search(r"Channels \(([0-9]+)/[0-9]+\): *(.*)", row)
         if told:
-            self.told_channels, self.told_names = int(told[1]), told[2].split(", ") if told[2] else []
+            self.told_channels, self.told_names = float(told[1]), told[2].split(", ") if told[2] else []
 
     def split_quoted(self, row):
         """Splits a row with quotes. A quote at the beginning of a field opens the quoted text, and the next quote
@@ -320,7 +323,7 @@ class _Csv:
 
     def time_of(self, text):
         """Returns a time in the unit of its column, or None if the text is no time."""
-        if len(text) > 100:
+        if len(text) > _MOST_OF_TIME:
             return None
         number = text if self.separator == "," else text.replace(",", ".", 1)
         if re.fullmatch(r"[-+]?[0-9]*\.?[0-9]+([eE][-+]?0?[0-9][0-9]?)?", number):
@@ -354,23 +357,51 @@ def _read_text(track, data):
         raise _Fault("the input is empty")
 
 
-def _read_session(track, data):
-    """Reads a session of sigrok or PulseView: a zip archive with the samples of all channels."""
+def _content(archive, name):
+    """Returns the bytes of a file of a session."""
+    try:
+        return archive.read(name)
+    except MemoryError:
+        raise
+    except Exception as error:
+        # zipfile raises errors of many classes for a damaged archive
+        why = _plain(str(error)) or type(error).__name__
+        raise _Fault(f"{_quoted(name)} of this session cannot be read: {why}") from None
+
+
+def _session(data):
+    """Returns the archive of a session of sigrok, its rate, the bytes of a sample, its channels by their numbers, and
+    the names of the pieces of its samples."""
+    no_session = _Fault(
+        "this zip archive is no session of sigrok with logic channels: export a .sal or .dsl file as VCD or CSV"
+    )
     try:
         archive = zipfile.ZipFile(io.BytesIO(data))
-        metadata = configparser.ConfigParser()
-        metadata.read_string(archive.read("metadata").decode("utf-8", "replace"))
+    except MemoryError:
+        raise
+    except Exception:
+        raise no_session from None
+    if "metadata" not in archive.namelist():
+        raise no_session
+    metadata = configparser.ConfigParser(interpolation=None)
+    text = _content(archive, "metadata").decode("utf-8", "replace")
+    try:
+        metadata.read_string(text)
         (device,) = (metadata[it] for it in metadata.sections() if "capturefile" in metadata[it])
         rate, size = _hertz(device["samplerate"]), int(device["unitsize"])
-        probes = {int(it[5:]): device[it] for it in device if re.fullmatch(r"probe[0-9]+", it)}
+        probes = {int(it[5:]): device[it] for it in device if re.fullmatch(r"probe[1-9][0-9]*", it)}
         names = [it for it in archive.namelist() if re.fullmatch(re.escape(device["capturefile"]) + r"(-[0-9]+)?", it)]
         names.sort(key=lambda it: int((re.search(r"-([0-9]+)$", it) or [0, 0])[1]))
-    except (KeyError, ValueError, zipfile.BadZipFile, configparser.Error):
-        raise _Fault(
-            "this zip archive is no session of sigrok with logic channels: export a .sal or .dsl file as VCD or CSV"
-        ) from None
+    except (KeyError, ValueError, configparser.Error):
+        raise no_session from None
     if rate <= 0 or not probes or not names:
         raise _Fault("this session of sigrok has no rate, no channel or no samples")
+    return archive, rate, size, probes, names
+
+
+def _read_session(track, data):
+    """Reads a session of sigrok or PulseView: a zip archive with the samples of all channels."""
+    archive, rate, size, probes, names = _session(data)
     for number in sorted(probes):
         track.add(probes[number].encode("utf-8").decode("latin-1"))
     track.pick()
@@ -381,7 +412,8 @@ def _read_session(track, data):
     table = bytes(it >> bit % 8 & 1 for it in range(256))
     before = 0
     for name in names:
-        samples = archive.read(name)[bit // 8 :: size].translate(table)
+        content = _content(archive, name)
+        samples = content[bit // 8 : len(content) - len(content) % size : size].translate(table)
         for found in re.finditer(rb"\x00+|\x01+", samples):
             track.take((before + found.start()) * 1e6 / rate, samples[found.start()])
         before += len(samples)

@@ -6,8 +6,11 @@ with spoilt half-bits.
                                    one that DCC_PROGRAM names
 """
 import array
+import base64
 import collections
 import copy
+import ctypes
+import hashlib
 import io
 import itertools
 import os
@@ -16,6 +19,8 @@ import re
 import shutil
 import subprocess
 import sys
+import sysconfig
+import tarfile
 import tempfile
 import unittest
 import unittest.mock
@@ -186,6 +191,9 @@ class Analysers(unittest.TestCase):
             'Time [s],"a\n0,0\n', "\xef\xbb\xbfTime [s],a\n0,0\n", "META x\n" + head + rows, "PKxx",
             "Time,a\n0,0\n1,1\n", "Time [us],a\n0,0\n10,1\n68.6,0\n127.1,1\n185.5,0\n",
             "; Channels (2/8): D0, D1\n; Samplerate: 1 MHz\nlogic,logic\n" + "0,0\n1,0\n" * 3, "\xff\xfeT\0",
+            head.replace("1 us", f"{'1' * 400} us") + rows, head.replace("1 us", f"{'1' * 5000} us") + rows,
+            head + rows + "#" + "9" * 5000, f"; Channels ({'1' * 5000}/8): D0\n; Samplerate: 1 MHz\nlogic\n0\n1\n",
+            "; Samplerate: 1.2.3\nlogic\n0\n1\n", "; Samplerate: . MHz\nlogic\n0\n1\n",
         ):  # fmt: skip
             data = text.encode("latin-1")
             if data.startswith(b"PK"):
@@ -193,12 +201,26 @@ class Analysers(unittest.TestCase):
             else:
                 with self.subTest(text):
                     self.assertAlike(data)
+        for unit in dcc_analyser._MICROSECONDS:
+            zeros = "0" * {"fs": 9, "ps": 6, "ns": 3}.get(unit, 0)
+            self.assertAlike((head.replace("us", unit) + re.sub(r"(#[0-9]+)", rf"\g<1>{zeros}", rows)).encode())
+        for columns in 20, 21, 25:
+            names = ",".join(f"c{it}" for it in range(columns))
+            self.assertAlike(f"Time [s],{names}\n0{',0' * columns}\n".encode())
         for channel in "a", "%", "b2", "2", "x", "!", "b":
             self.assertAlike((head + rows).encode(), channel)
         self.assertEqual(dcc_analyser.read(self.track(), "b").channel, "b")
         self.assertRaises(TypeError, dcc_analyser.read, 5)
         self.assertRaises(TypeError, dcc_analyser.read, b"", 5)
         self.assertRaises(OSError, dcc_analyser.read, os.path.join(TOP, "lacking"))
+
+    def test_a_file_has_a_limit_of_half_bits(self):
+        whole = recorded(self.track(), "b")[0]
+        with unittest.mock.patch.object(dcc_analyser, "MOST_HALVES", len(whole)):
+            self.assertEqual(recorded(self.track(), "b"), (whole, ""))
+        for most in 50, len(whole) - 1:
+            with unittest.mock.patch.object(dcc_analyser, "MOST_HALVES", most):
+                self.assertEqual(recorded(self.track(), "b"), (whole[:most], "U7 input too long"))
 
     @staticmethod
     def track(channel=2):
@@ -209,24 +231,28 @@ class Analysers(unittest.TestCase):
             at += us
         return ("Time [s],a,b\n" + "\n".join(rows) + "\n").encode()
 
-    def test_sessions_of_sigrok(self):
-        def session(rate="2 MHz", size=1, pieces=3, probes={1: "D0", 3: "track \u00b5"}, bit=2, **other):
-            levels = []
-            for n, us in enumerate([100, *dcc.halves(SPEED), 58]):
-                levels += [n % 2] * (2 * us)
-            sample = lambda it: bytes([(it << bit % 8) | 1 if place == bit // 8 else 0 for place in range(size)])
-            samples = b"".join(map(sample, levels))
-            lines = ["[global]", "sigrok version=0.5", "[device 1]", "capturefile=logic-1", f"samplerate={rate}"]
-            lines += [f"unitsize={size}", *(f"probe{n}={name}" for n, name in probes.items())]
-            file = io.BytesIO()
-            with zipfile.ZipFile(file, "w") as archive:
-                archive.writestr("version", "2")
-                archive.writestr("metadata", "\n".join(other.get("lines", lines)))
-                step = -(-len(levels) // pieces) * size
-                for n in range(pieces):
-                    archive.writestr(f"logic-1-{n + 1}", samples[n * step : (n + 1) * step])
-            return file.getvalue()
+    @staticmethod
+    def session(rate="2 MHz", size=1, pieces=3, probes={1: "D0", 3: "track \u00b5"}, bit=2, **other):
+        """A session of sigrok in which one channel has a packet."""
+        levels = []
+        for n, us in enumerate([100, *dcc.halves(SPEED), 58]):
+            levels += [n % 2] * (2 * us)
+        sample = lambda it: bytes([(it << bit % 8) | 1 if place == bit // 8 else 0 for place in range(size)])
+        samples = b"".join(map(sample, levels))
+        lines = ["[global]", "sigrok version=0.5", "[device 1]", "capturefile=logic-1", f"samplerate={rate}"]
+        lines += [f"unitsize={size}", *(f"probe{n}={name}" for n, name in probes.items())]
+        file = io.BytesIO()
+        with zipfile.ZipFile(file, "w", other.get("how", zipfile.ZIP_STORED)) as archive:
+            archive.writestr("version", "2")
+            archive.writestr("metadata", "\n".join(other.get("lines", lines)))
+            step = -(-len(levels) // pieces) * size
+            for n in range(pieces):
+                piece = samples[n * step : (n + 1) * step] + other.get("rest", b"")
+                archive.writestr(f"logic-1-{n + 1}", piece)
+        return file.getvalue()
 
+    def test_sessions_of_sigrok(self):
+        session = self.session
         wanted = ["84 loco s3 speed28 f 4"]
         for words in {}, {"pieces": 1}, {"pieces": 12}, {"size": 2, "bit": 9, "probes": {1: "x", 10: "track \u00b5"}}:
             found = dcc_analyser.read(session(**words), "track \u00b5")
@@ -242,6 +268,168 @@ class Analysers(unittest.TestCase):
         ):
             self.assertIn(sentence, recorded(session(**words), "track \u00b5")[1])
         self.assertIn("has no two edges; the channels are D0", recorded(session())[1])
+        # (ConfigParser takes a % for the begin of a name)
+        found = dcc_analyser.read(session(probes={3: "duty 50%"}))
+        self.assertEqual(([str(it) for it in dcc.seen(found.halves)], found.channel), (wanted, "duty 50%"))
+        self.assertEqual(recorded(session(probes={0: "x", 3: "track"}))[1], "")
+        # (a byte at the end of a piece that is no whole sample)
+        words = {"size": 2, "pieces": 12, "bit": 2}
+        halves = recorded(session(**words), "track \u00b5")[0]
+        self.assertEqual((len(halves), recorded(session(**words, rest=b"\4"), "track \u00b5")[0]), (85, halves))
+
+    def test_a_damaged_session_keeps_what_stands_before_the_damage(self):
+        whole = self.session(how=zipfile.ZIP_DEFLATED)
+        halves = recorded(whole, "track \u00b5")[0]
+        # the places of the name of the last piece, in its local header and in the directory
+        local, entry = whole.index(b"logic-1-3"), whole.rindex(b"logic-1-3") - 46
+        for name, at, value in (
+            ("the checksum", entry + 16, whole[entry + 16] ^ 1),
+            ("an encrypted piece", entry + 8, 1),
+            ("a method that is not known", entry + 10, 99),
+            ("another name", local + 8, ord("4")),
+            ("bytes that are not compressed", local + 9, 255),
+        ):
+            with self.subTest(name):
+                damaged = bytearray(whole)
+                damaged[at] = value
+                found, said = recorded(bytes(damaged), "track \u00b5")
+                self.assertIn('"logic-1-3" of this session cannot be read: ', said)
+                self.assertEqual(found, halves[: len(found)])
+                self.assertGreater(len(found), 50)
+
+    def test_a_damaged_session_is_read_or_refused(self):
+        whole, chance, refused = self.session(how=zipfile.ZIP_DEFLATED), random.Random(61), 0
+        for _ in range(2000):
+            damaged = bytearray(whole)
+            for _ in range(chance.choice((1, 1, 3))):
+                damaged[chance.randrange(2, len(damaged))] = chance.randrange(256)
+            if not chance.randrange(20):
+                del damaged[chance.randrange(2, len(damaged)) :]
+            # (any other error than Unreadable ends the test)
+            refused += recorded(bytes(damaged), "track \u00b5")[1] != ""
+        self.assertGreater(refused, 1000)
+
+
+class Wheels(unittest.TestCase):
+    """The wheel, with a stub in place of the shared object."""
+
+    FILES = (
+        "LICENSE-APACHE", "LICENSE-MIT", "README.md", "backend.py", "dcc.py", "dcc_analyser.py", "pyproject.toml",
+        "wheel",
+    )  # fmt: skip
+    EXAMPLES = "histogram.py", "show.py", "table.py"
+
+    def wheel(self, room, library):
+        """Makes a wheel with this content of the shared object. Returns the files of the wheel, and what is said."""
+        for name in self.FILES:
+            shutil.copy(os.path.join(HERE, name), room)
+        with open(f"{room}/make", "wb") as make:
+            make.write(b"#!/bin/sh\nprintf '" + library + b"' > \"$2/libdcc_c.so\"\n")
+        os.chmod(f"{room}/make", 0o755)
+        said = subprocess.run([f"{room}/wheel", f"{room}/made"], capture_output=True, text=True)
+        if said.returncode:
+            return said.returncode, said.stderr
+        with zipfile.ZipFile(said.stdout.strip()) as archive:
+            return {it.filename: archive.read(it) for it in archive.infolist()}, bytes_of(said.stdout.strip())
+
+    def test_a_wheel_has_its_files_with_their_sums(self):
+        with tempfile.TemporaryDirectory() as room, tempfile.TemporaryDirectory() as other:
+            files, whole = self.wheel(room, b"GLIBC_2.17 GLIBC_2.2.5")
+            self.assertEqual(self.wheel(other, b"GLIBC_2.17 GLIBC_2.2.5")[1], whole)
+        info = next(it for it in files if it.endswith("/RECORD"))[: -len("/RECORD")]
+        wanted = {"dcc/__init__.py": "dcc.py", "dcc_analyser.py": "dcc_analyser.py"}
+        wanted.update((f"{info}/licenses/{it}", it) for it in ("LICENSE-MIT", "LICENSE-APACHE"))
+        for path, name in wanted.items():
+            self.assertEqual(files[path], bytes_of(os.path.join(HERE, name)), path)
+        made = {"dcc/libdcc_c.so", "dcc/py.typed", *(f"{info}/{it}" for it in ("METADATA", "WHEEL", "RECORD"))}
+        self.assertEqual(set(files), made | set(wanted))
+        self.assertEqual((files["dcc/py.typed"], files["dcc/libdcc_c.so"]), (b"", b"GLIBC_2.17 GLIBC_2.2.5"))
+        rows = [it.split(",") for it in files[f"{info}/RECORD"].decode().splitlines()]
+        self.assertEqual(sorted(it[0] for it in rows), sorted(files))
+        for path, told, size in rows:
+            total = base64.urlsafe_b64encode(hashlib.sha256(files[path]).digest()).decode().rstrip("=")
+            of_itself = path == f"{info}/RECORD"
+            self.assertEqual((told, size), ("", "") if of_itself else (f"sha256={total}", str(len(files[path]))), path)
+
+    def test_a_wheel_needs_no_newer_glibc(self):
+        for library in b"GLIBC_2.2.5 GLIBC_2.18", b"GLIBC_2.34", b"GLIBC_3.0":
+            with tempfile.TemporaryDirectory() as room:
+                status, said = self.wheel(room, library)
+                self.assertEqual((status, said), (1, "wheel: the shared object needs a glibc newer than 2.17\n"))
+                self.assertFalse(os.path.exists(f"{room}/made"))
+
+    def clone(self, room):
+        """Makes the folder of the package, as in a clone with a small C file, and a compiler that copies this file.
+        Returns the folder."""
+        folder = f"{room}/bindings/python"
+        for it in folder, f"{room}/c", f"{room}/include", f"{room}/other":
+            os.makedirs(it)
+        for it in (*self.FILES, *self.EXAMPLES):
+            shutil.copy(os.path.join(HERE, it), folder)
+        contents = {
+            "c/dcc.c": "of the clone", "include/dcc.h": "header", "other/dcc.c": "other", "other/dcc.h": "other header",
+            "cc": '#!/bin/sh\n[ "$*" = "${*#*header}" ] && while [ "$1" != -I ]; do shift; done && '
+            'cat "$2/dcc.h" "$5" > "$4"\n',
+        }  # fmt: skip
+        for path, content in contents.items():
+            with open(f"{room}/{path}", "w", encoding="ascii") as file:
+                file.write(content)
+        os.chmod(f"{room}/cc", 0o755)
+        return folder
+
+    def built(self, folder, call, **words):
+        """Calls a function of the backend in a folder. Returns its result, or the end of its error."""
+        words = {name: it for name, it in {**os.environ, "DCC_SOURCE": "", **words}.items() if it}
+        text = f"import backend; print(backend.{call})"
+        said = subprocess.run([sys.executable, "-c", text], cwd=folder, env=words, capture_output=True, text=True)
+        return said.stderr.strip().split("\n")[-1] if said.returncode else said.stdout.strip()
+
+    def test_pip_builds_a_wheel_of_the_one_c_file(self):
+        with tempfile.TemporaryDirectory() as room:
+            folder = self.clone(room)
+            system = b'[build-system]\nrequires = []\nbuild-backend = "backend"\nbackend-path = ["."]\n'
+            self.assertIn(system, bytes_of(f"{folder}/pyproject.toml"))
+            for source, library in (None, b"headerof the clone"), (f"{room}/other/dcc.c", b"other headerother"):
+                name = self.built(folder, "build_wheel('made')", CC=f"{room}/cc -Wall", DCC_SOURCE=source)
+                self.assertRegex(name, r"^kogreffyn-[0-9.]+-py3-none-[a-z0-9_]+\.whl$")
+                platform = re.sub("[-.]", "_", sysconfig.get_platform())
+                self.assertTrue(name.endswith(f"-py3-none-{platform}.whl"), name)
+                with zipfile.ZipFile(f"{folder}/made/{name}") as archive:
+                    self.assertEqual(archive.read("dcc/libdcc_c.so"), library)
+                    info = next(it for it in archive.namelist() if it.endswith("/WHEEL"))
+                    self.assertIn(f"\nRoot-Is-Purelib: false\nTag: py3-none-{platform}\n", archive.read(info).decode())
+            said = self.built(folder, "build_wheel('made')", CC="false")
+            self.assertTrue(said.startswith("subprocess.CalledProcessError"), said)
+            said = self.built(folder, "build_wheel('made')", PATH=f"{room}/other", CC="")
+            self.assertIn("no C compiler: install one, or name it in CC", said)
+            os.remove(f"{room}/c/dcc.c")
+            self.assertIn("no dcc.c: name the one C file in DCC_SOURCE", self.built(folder, "build_wheel('made')"))
+            said = self.built(folder, "build_wheel('made')", DCC_SOURCE="lacking.c")
+            self.assertIn("no lacking.c: name the one C file in DCC_SOURCE", said)
+
+    def test_a_source_distribution_builds_the_wheel(self):
+        with tempfile.TemporaryDirectory() as room, tempfile.TemporaryDirectory() as other:
+            folder = self.clone(room)
+            name = self.built(folder, f"build_sdist({other!r})")
+            whole = bytes_of(f"{other}/{name}")
+            self.assertEqual(self.built(folder, f"build_sdist({other!r})"), name)
+            self.assertEqual(bytes_of(f"{other}/{name}"), whole)
+            begin = name[: -len(".tar.gz")]
+            self.assertRegex(begin, r"^kogreffyn-[0-9.]+$")
+            with tarfile.open(f"{other}/{name}") as archive:
+                files = {it.name: it.mode for it in archive.getmembers()}
+                archive.extractall(other)
+            wanted = {"PKG-INFO", "dcc.c", "dcc.h", *self.FILES, *self.EXAMPLES} - {"wheel"}
+            self.assertEqual(set(files), {f"{begin}/{it}" for it in wanted})
+            for it in wanted - {"PKG-INFO", "dcc.c", "dcc.h"}:
+                self.assertEqual(bytes_of(f"{other}/{begin}/{it}"), bytes_of(os.path.join(HERE, it)), it)
+                self.assertEqual(files[f"{begin}/{it}"], 0o755 if it in self.EXAMPLES else 0o644, it)
+            info = bytes_of(f"{other}/{begin}/PKG-INFO").decode()
+            self.assertRegex(info, r"^Metadata-Version: 2.1\nName: kogreffyn\nVersion: [0-9.]+\n")
+            self.assertNotIn("](../", info)
+            wheel = self.built(f"{other}/{begin}", "build_wheel('made')", CC=f"{room}/cc")
+            with zipfile.ZipFile(f"{other}/{begin}/made/{wheel}") as archive:
+                self.assertEqual(archive.read("dcc/libdcc_c.so"), b"headerof the clone")
 
 
 class ByHand(unittest.TestCase):
@@ -506,7 +694,27 @@ class ByHand(unittest.TestCase):
         framer = dcc.Framer()
         framer.push(58, 0xFFFFFFFF)
         framer.push(100, 18)
-        self.assertEqual(framer.push(58, 9), dcc.Seen(0xFFFFFFFF + 20, "H3", b""))
+        found = dcc.Seen(0xFFFFFFFF + 20, "H3", b"", 0xFFFFFFFF * 58 + 18 * 100 + 2 * 58)
+        self.assertEqual(framer.push(58, 9), found)
+
+    def test_packets_and_refusals_have_their_time(self):
+        text = "58*28 100*14 58*4 100*4 58*4 100*6 58*2 100*6 58*4 100*8 58*4"
+        halves = list(dcc.durations(text))
+        self.assertEqual([(it.at, it.us) for it in dcc.seen(halves)], [(84, 46 * 58 + 38 * 100)])
+        runs, framer = [[*map(int, it.split("*"))] for it in text.split()], dcc.Framer()
+        found = [it for it in (framer.push(*run) for run in [*runs, *runs[:-1], [58, 100]]) if it]
+        self.assertEqual([(it.at, it.us) for it in found], [(84, 6468), (168, 2 * 6468)])
+        halves = halves + [70000, 58, 58] + halves[:50] + [20] + halves
+        times = [*itertools.accumulate(min(us, 65535) for us in halves)]
+        wanted = [(84, 6468), (138, 0), (222, 0)]
+        found = list(dcc.seen(halves))
+        self.assertEqual([it.at for it in found], [it for it, _ in wanted])
+        self.assertEqual([it.us for it in found], [times[it.at - 1] for it in found])
+        for pieces in (halves,), (halves[:100], halves[100:]), (halves[:84], halves[84:137], halves[137:]):
+            framer = dcc.Framer()
+            self.assertEqual([it for piece in pieces for it in framer.push_many(piece)], found)
+            framer = dcc.Framer()
+            self.assertEqual([it for piece in pieces for it in framer.push_many(dcc._array(piece))], found)
 
     def test_a_framer_takes_arrays_as_half_bits_one_by_one(self):
         halves = [us for it in list(rows())[:6] for us in dcc.halves(dcc.frame(it))]
@@ -515,12 +723,36 @@ class ByHand(unittest.TestCase):
             found += framer.push_many(halves[from_:to])
         self.assertEqual((len(found), found), (6, list(dcc.seen(halves))))
         for us in 65535, 65536, 65536 + 58, 2**64 + 58:
-            self.assertEqual(dcc.Framer().push_many([58] * 40 + [100, us]), [dcc.Seen(42, "H1", b"")])
+            time = 40 * 58 + 100 + 65535
+            self.assertEqual(dcc.Framer().push_many([58] * 40 + [100, us]), [dcc.Seen(42, "H1", b"", time)])
         framer = dcc.Framer()
         framer.push_many([58] * 40 + [100])
         for bad, kind in (["58"], TypeError), ([70, -1], ValueError), (None, TypeError):
             self.assertRaises(kind, framer.push_many, bad)
-        self.assertEqual(framer.push_many(iter([70])), [dcc.Seen(42, "H1", b"")])
+        self.assertEqual(framer.push_many(iter([70])), [dcc.Seen(42, "H1", b"", 40 * 58 + 100 + 70)])
+
+    def test_a_table_has_the_packets_of_a_recording(self):
+        def table(*words, data=b""):
+            return told([os.path.join(HERE, "table.py"), *words], data)
+
+        head = "seconds,refusal,line,frame,kind,address,forward,bits,group,state,on,cv,value,place,one,board,output,"
+        head += "signal,aspect\n"
+        capture = b"58*28 100*14 58*4 100*4 58*4 100*6 58*2 100*6 58*4 100*8 58*4 58*40 100 70"
+        rows = "0.006468,,loco s3 speed28 f 4,036261,speed28,s3,True,4" + "," * 11 + "\n"
+        rows += "0.008958,H1" + "," * 17 + "\n"
+        self.assertEqual(table(data=capture), ((head + rows).encode(), b"", 0))
+        out, error, status = table(os.path.join(TOP, "examples", "analyser.vcd"))
+        found = [it.split(",") for it in out.decode().splitlines()]
+        with open(os.path.join(TOP, "examples", "analyser.words"), encoding="ascii") as words:
+            lines = [it.rstrip("\n").partition(" ")[2] for it in words]
+        self.assertEqual((error, status, [it[2] for it in found]), (b"", 0, ["line", *lines]))
+        self.assertEqual(len({len(it) for it in found}), 1)
+        for words, data, said in (
+            ((), b"58x", b"table.py: U2 line 1: bad number\n"),
+            (("lacking",), b"", b"table.py: [Errno 2] No such file or directory: 'lacking'\n"),
+            ((os.devnull,), b"", b"table.py: the input is empty\n"),
+        ):
+            self.assertEqual(table(*words, data=data), (b"", said, 1))
 
     def test_statistics_are_those_of_timing(self):
         packet = list(dcc.halves(SPEED))
@@ -554,7 +786,14 @@ class ByHand(unittest.TestCase):
 
     def test_a_full_meter_takes_nothing(self):
         meter = dcc.Meter()
-        meter.push(58, 4_294_967_295)
+        meter.push(58, 12_000)
+        meter.push(100, 345)
+        with self.assertRaisesRegex(dcc.Refused, "^U7 input too long$"):
+            meter.push(58, 4_294_954_951)
+        # 2**32 half-bits take half a minute, so the count in the struct becomes the greatest one
+        count = (12_345).to_bytes(4, sys.byteorder)
+        self.assertEqual(bytes(meter._meter).count(count), 1)
+        ctypes.memmove(ctypes.addressof(meter._meter) + bytes(meter._meter).index(count), b"\xff" * 4, 4)
         for push in (lambda: meter.push(58), lambda: meter.push_many([58])):
             with self.assertRaisesRegex(dcc.Refused, "^U7 input too long$"):
                 push()
@@ -610,6 +849,12 @@ class ByHand(unittest.TestCase):
             told([sys.executable, os.path.join(HERE, "histogram.py")], b"58x"),
             (b"", b"histogram.py: U2 line 1: bad number\n", 1),
         )
+        said = told([sys.executable, os.path.join(HERE, "histogram.py")], f"{good} 52 90*2 70000 65535".encode())
+        bars = ("52 1", 2, "half of a one, from"), ("58 46", 60, ""), ("64 0", 0, "half of a one, to")
+        bars += ("90 2", 3, "half of a zero, from"), ("100 38", 50, ""), ("10000 0", 0, "half of a zero, to")
+        bars += (("65535 2", 3, ""),)
+        lines = [" ".join(filter(None, (count, "#" * width, limit))) for count, width, limit in bars]
+        self.assertEqual([" ".join(it.split()) for it in said[0].decode().split("\n")], [*lines, "packets 1", ""])
         self.assertEqual(list(dcc.durations("65534 65535 65536 4294967354*2")), [65534] + [65535] * 4)
         self.assertEqual(list_of(dcc.durations, "58 58\udc80 58"), (1, "U2 line 1: bad number"))
 
@@ -902,6 +1147,8 @@ class ByHand(unittest.TestCase):
         line = good.replace("58*28", "58 " * 28)
         texts += [f"{line} # {line}\n" * 6 + last for last in ("58", "58x", "\n\n58 # x", "#")]
         texts += ["58 " * 340 + last for last in ("58x", "57", "5 # 8\n57 58*2")] + ["#" * 1500 + "\n58 58x"]
+        # comments whose end lies in the piece that follows, behind a comment that ends in the same piece
+        texts += ["58 # 8\n" * 60 + "58 57" + last for last in ("", " # 5x 58 58 58 58 58 58 58 58 58 58 58 58 58")]
         texts += ["1" * 1200, "58 " * 333 + "58" * 4 + "*3 58", "65535 65536 " * 120]
         for text, piece in itertools.product(texts, (1, 7, 100, dcc._PIECE)):
             wanted = list_of(dcc.durations, text)
@@ -919,7 +1166,10 @@ class ByHand(unittest.TestCase):
         self.assertRefused("U2 line 1: bad number", dcc.capture, "58*16777216 58x")
         with unittest.mock.patch.object(dcc, "MOST_HALVES", 10):
             self.assertEqual(len(dcc.capture("58 " * 10)), 10)
-            self.assertRefused("U7 input too long", dcc.capture, "58 " * 11)
+            for text, piece in itertools.product(("58 " * 11, "58*6 58*5", "58*10 58"), (3, 7, dcc._PIECE)):
+                with unittest.mock.patch.object(dcc, "_PIECE", piece):
+                    self.assertEqual(len(dcc.capture("58*5 " * 2)), 10)
+                    self.assertRefused("U7 input too long", dcc.capture, text)
         self.assertEqual(dcc.capture(b"58 57*2"), array.array("H", [58, 57, 57]))
         halves = dcc.capture(f"{good} " * 3)
         self.assertEqual(list(dcc.seen(halves)), list(dcc.seen(list(halves))))
@@ -980,6 +1230,8 @@ class ByHand(unittest.TestCase):
         loco, board = dcc.Loco({1: 3}), dcc.Board(1)
         loco._loco.speed_mode = 77
         board._board.number = 511
+        self.assertFalse(board.hears(SPEED))
+        board._board.number = 512
         for call in loco.apply, board.apply, board.hears:
             self.assertRefused("P13", call, SPEED)
         loco._loco.address_kind = 3
@@ -1084,12 +1336,46 @@ class ByHand(unittest.TestCase):
     def test_threads_on_one_object(self):
         self.assertEqual(told([sys.executable, "-c", THREADS], b""), (b"ended\n", b"", 0))
 
+    def test_plain_words_are_those_of_the_table(self):
+        with open(os.path.join(TOP, "examples/plain.txt"), encoding="utf-8") as table:
+            lines = [it.rstrip("\n").split(" | ") for it in table if not it.startswith("#")]
+        for packet, words in lines:
+            self.assertEqual(dcc.plain(bytes.fromhex(packet)), words)
+        self.assertGreater(len(lines), 60)
+        for packet, code in ((b"\3\3", "L1"), (bytes(16), "L1"), (b"\3\x62\x60", "L2")):
+            with self.assertRaises(dcc.Refused) as said:
+                dcc.plain(packet)
+            self.assertEqual(str(said.exception), code)
+
+    def test_plain_words_have_the_room_that_the_library_writes(self):
+        with open(os.path.join(TOP, "include/dcc.h"), encoding="utf-8") as header:
+            wanted = int(re.search(r"\bDCC_PLAIN = (\d+)", header.read())[1])
+        with unittest.mock.patch.object(dcc, "_plain", return_value=0) as call:
+            dcc.plain(SPEED)
+        self.assertEqual(len(call.call_args[0][2]), wanted)
+
     def test_a_packet_line_has_the_room_that_the_library_writes(self):
         with open(os.path.join(TOP, "include/dcc.h"), encoding="utf-8") as header:
             wanted = int(re.search(r"\bDCC_LINE = (\d+)", header.read())[1])
         with unittest.mock.patch.object(dcc, "_line", return_value=0) as call:
             dcc.line(SPEED)
         self.assertEqual(len(call.call_args[0][2]), wanted)
+
+    def test_an_array_cannot_grow_while_the_library_reads_it(self):
+        packet = dcc.halves(SPEED)
+        finders = {"_push_many": dcc.Framer, "_lost_push_many": dcc.Lost, "_meter_push_many": dcc.Meter}
+        for call, finder in finders.items():
+            halves, real, calls = array.array("H", 2 * packet), getattr(dcc, call), []
+
+            def growing(*words):
+                self.assertRaises(BufferError, halves.extend, packet)
+                calls.append(words[2])
+                return real(*words)
+
+            with self.subTest(call), unittest.mock.patch.object(dcc, call, growing):
+                finder().push_many(halves)
+                self.assertEqual(calls[0], 2 * len(packet))
+            halves.extend(packet)
 
     def test_the_shared_object_lies_beside_the_module(self):
         words = {name: it for name, it in os.environ.items() if name != "DCC_SO"}

@@ -45,9 +45,9 @@ pub fn sources(top: &Path) -> Vec<PathBuf> {
     vec![top.join("c/dcc.c"), top.join("crates/dcc_c/out/c/dcc.c")]
 }
 
-/// A tool for the target: the one that a variable such as `CC_thumbv7m_none_eabi` names, or `native` on the target
-/// itself.
-fn tool(variable: &str, native: &str, target: &str) -> String {
+/// A tool for the target: the one that a variable such as `CC_thumbv7m_none_eabi` names, else `native` on the target
+/// itself, and `own` with its prefix for a microcontroller.
+fn tool(variable: &str, native: &str, own: &str, target: &str) -> String {
     let of_target = format!("{variable}_{}", target.replace('-', "_"));
     for it in [of_target.as_str(), variable] {
         println!("cargo:rerun-if-env-changed={it}");
@@ -56,11 +56,8 @@ fn tool(variable: &str, native: &str, target: &str) -> String {
     env::var(&of_target)
         .or_else(|_| env::var(variable))
         .or_else(|it| {
-            if is_native {
-                Ok(native.into())
-            } else {
-                Err(it)
-            }
+            let of_prefix = prefix(target).map(|it| format!("{it}{own}"));
+            of_prefix.or(is_native.then(|| native.into())).ok_or(it)
         })
         .unwrap_or_else(|_| panic!("no C compiler for {target}: name it in {of_target}"))
 }
@@ -73,22 +70,57 @@ fn run(command: &mut Command) {
     );
 }
 
+/// The words for the compiler of `dcc.c`: for its processor, and on a desktop for code that can go into a shared
+/// library.
+pub fn words(target: &str) -> Vec<&'static str> {
+    let mut words = vec!["-std=c99", "-O2", "-ffunction-sections", "-fdata-sections"];
+    words.extend(match target {
+        "thumbv6m-none-eabi" => vec!["-mthumb", "-mcpu=cortex-m0plus"],
+        "thumbv7m-none-eabi" => vec!["-mthumb", "-mcpu=cortex-m3"],
+        "thumbv7em-none-eabi" => vec!["-mthumb", "-mcpu=cortex-m4"],
+        "riscv32imac-unknown-none-elf" => vec!["-march=rv32imac", "-mabi=ilp32"],
+        _ if target.contains("-none") || target.contains("windows") => vec![],
+        _ => vec!["-fPIC"],
+    });
+    words
+}
+
+/// What the names of Debian's compiler and archiver for a microcontroller begin with.
+pub fn prefix(target: &str) -> Option<&'static str> {
+    match target {
+        _ if target.starts_with("thumb") && target.contains("-none-eabi") => Some("arm-none-eabi-"),
+        _ if target.starts_with("riscv32") && target.contains("-none") => {
+            Some("riscv64-unknown-elf-")
+        }
+        _ => None,
+    }
+}
+
+/// The lines that tell cargo to link an archive in a folder, and to do so again if the file of the library changes.
+/// `DCC_FOLDER` is for the tests.
+pub fn lines(file: &Path, folder: &Path) -> [String; 4] {
+    [
+        format!("cargo:rerun-if-changed={}", file.display()),
+        format!("cargo:rustc-link-search=native={}", folder.display()),
+        "cargo:rustc-link-lib=static=dcc_c".into(),
+        format!("cargo:rustc-env=DCC_FOLDER={}", folder.display()),
+    ]
+}
+
 /// Compiles `dcc.c` to an archive in a folder of cargo.
-fn compile(source: &Path, target: &str) -> PathBuf {
+fn compile(source: &Path, top: &Path, target: &str) -> PathBuf {
     let folder = PathBuf::from(env::var_os("OUT_DIR").expect("cargo tells the folder"));
     let (object, archive) = (folder.join("dcc.o"), folder.join("libdcc_c.a"));
-    let mut words = vec!["-std=c99", "-O2", "-ffunction-sections", "-fdata-sections"];
-    if !target.contains("-none") && !target.contains("windows") {
-        words.push("-fPIC");
-    }
     let _ = std::fs::remove_file(&archive);
-    run(Command::new(tool("CC", "cc", target))
-        .args(words)
+    run(Command::new(tool("CC", "cc", "gcc", target))
+        .args(words(target))
+        .arg("-I")
+        .arg(top.join("include"))
         .arg("-c")
         .arg(source)
         .arg("-o")
         .arg(&object));
-    run(Command::new(tool("AR", "ar", target))
+    run(Command::new(tool("AR", "ar", "ar", target))
         .arg("rcs")
         .arg(&archive)
         .arg(&object));
@@ -106,16 +138,16 @@ fn main() {
         .into_iter()
         .find(|it| it.join("libdcc_c.a").is_file());
     let (of, folder) = match (source, archive) {
-        (Some(source), _) => (source.clone(), compile(&source, &target)),
+        (Some(source), _) => (source.clone(), compile(&source, &top, &target)),
         (None, Some(folder)) => (folder.join("libdcc_c.a"), folder),
         (None, None) => match sources(&top).into_iter().find(|it| it.is_file()) {
-            Some(source) => (source.clone(), compile(&source, &target)),
+            Some(source) => (source.clone(), compile(&source, &top, &target)),
             None => panic!(
                 "no libdcc_c.a for {target} and no dcc.c: name one in DCC_LIB or DCC_SOURCE, or make it (docs/C.md)"
             ),
         },
     };
-    println!("cargo:rerun-if-changed={}", of.display());
-    println!("cargo:rustc-link-search=native={}", folder.display());
-    println!("cargo:rustc-link-lib=static=dcc_c");
+    for line in lines(&of, &folder) {
+        println!("{line}");
+    }
 }

@@ -4,7 +4,7 @@
  * commands `show`, `lost` and `encode` do the same as those of the proved program (docs/FORMATS.md). The functions of
  * the library are proved. The code of this file is tested, not proved.
  *
- *   cc -O2 -Ic -o dcc examples/c/dcc.c c/dcc.c
+ *   cc -O2 -Iinclude -o dcc examples/c/dcc.c c/dcc.c
  */
 #include "dcc.h"
 #include <errno.h>
@@ -152,143 +152,17 @@ static bool read_run(uint16_t *us, uint32_t *n) {
     return true;
 }
 
-/* ---- plain words ---- */
-
-static void put_address(const dcc_packet *packet) {
-    if (packet->to == DCC_ALL) {
-        put("all locomotives");
-    } else {
-        put_between("locomotive ", packet->address, packet->to == DCC_LONG ? " (long)" : "");
-    }
-}
-
-/* Writes a speed. With 28 steps, two values of the speed bits mean stop, and the next two mean emergency stop. */
-static void put_speed(const dcc_packet *packet) {
-    unsigned stops = packet->kind == DCC_SPEED28 ? 2 : 1;
-    if (packet->kind == DCC_SPEED28 && packet->to == DCC_ALL && packet->bits > 3) {
-        put("nothing to do");
-        return;
-    }
-    if (packet->bits < stops) {
-        put("stop");
-    } else if (packet->bits < 2 * stops) {
-        put("emergency stop");
-    } else {
-        put_between("step ", packet->bits - (2 * stops - 1), packet->kind == DCC_SPEED28 ? " of 28" : " of 126");
-    }
-    put(packet->forward ? ", forward" : ", reverse");
-}
-
-static void put_functions(const dcc_packet *packet) {
-    unsigned first = packet->group, count = first == 0 ? 5 : first < 13 ? 4 : 8;
-    const char *before = "F";
-    for (unsigned i = 0; i < count; i++) {
-        unsigned place = first > 0 ? i : i > 0 ? i - 1 : 4; /* in group 0, the highest bit is F0 */
-        if (!(packet->bits >> place & 1)) continue;
-        put_between(before, first + i, "");
-        before = ", F";
-    }
-    if (before[0] == ',') put(" on, the rest of ");
-    put_between("F", first, " to ");
-    put_between("F", first + count - 1, " off");
-}
-
-static void put_state(const dcc_packet *packet) {
-    if (packet->state == 0) {
-        put("all binary states");
-    } else {
-        put_between("binary state ", packet->state, "");
-    }
-    put(packet->on ? " on" : " off");
-}
-
-/* Writes an access to a CV or to a bit of a CV. */
-static void put_cv(const dcc_packet *packet) {
-    bool is_bit = packet->kind == DCC_CV_BIT_WRITE || packet->kind == DCC_CV_BIT_VERIFY;
-    bool is_write = packet->kind == DCC_CV_WRITE || packet->kind == DCC_CV_BIT_WRITE;
-    if (!is_write) put("is ");
-    if (is_bit) put_between("bit ", packet->place, " of ");
-    put_between("CV", packet->cv, is_write ? " := " : " ");
-    put_between("", is_bit ? packet->one : packet->value, is_write ? "" : "?");
-}
-
-static void put_accessory(const dcc_packet *packet) {
-    put_between("board ", packet->address, ", output ");
-    put_between("", packet->output, packet->on ? " on" : " off");
-    if (packet->address == 511) {
-        put(", all boards");
-    } else if (packet->address > 0) {
-        put_between(", turnout ", 4 * (packet->address - 1u) + packet->output / 2u + 1, "");
-    }
-}
-
-static void put_signal(const dcc_packet *packet) {
-    if (packet->address == 2047) {
-        put("all signals");
-    } else {
-        put_between("signal ", packet->address, "");
-    }
-    put_between(": aspect ", packet->aspect, "");
-}
-
-/* Writes the access to a CV of a service packet to *packet. Returns false if the frame is not that of a service
- * packet. */
-static bool read_service(const dcc_frame *frame, dcc_packet *packet) {
-    const uint8_t *bytes = frame->bytes;
-    if (frame->len != 4) return false;
-    packet->cv = (uint16_t)(256 * (bytes[0] & 3) + bytes[1] + 1);
-    packet->value = bytes[2];
-    packet->place = bytes[2] & 7;
-    packet->one = bytes[2] >> 3 & 1;
-    switch (bytes[0] & 0xfc) {
-    case 0x7c: packet->kind = DCC_CV_WRITE; return true;
-    case 0x74: packet->kind = DCC_CV_VERIFY; return true;
-    case 0x78:
-        if (bytes[2] < 0xe0) return false;
-        packet->kind = bytes[2] & 16 ? DCC_CV_BIT_WRITE : DCC_CV_BIT_VERIFY;
-        return true;
-    default: return false;
-    }
-}
-
-/* Writes the plain words of the packet of a frame. */
-static void put_plain_words(const dcc_frame *frame) {
-    char line[DCC_LINE];
-    dcc_packet packet;
-    if (dcc_read(frame->bytes, frame->len, &packet)) return;
-    if (packet.kind >= DCC_RESET && packet.kind <= DCC_CV_BIT_VERIFY) {
-        put_address(&packet);
-        put(": ");
-    } else if (packet.kind == DCC_OTHER && read_service(frame, &packet)) {
-        put("on a programming track: ");
-    }
-    switch (packet.kind) {
-    case DCC_IDLE: put("nothing to do"); break;
-    case DCC_RESET: put("stop, everything off"); break;
-    case DCC_SPEED28:
-    case DCC_SPEED128: put_speed(&packet); break;
-    case DCC_FUNCTIONS: put_functions(&packet); break;
-    case DCC_STATE: put_state(&packet); break;
-    case DCC_ACCESSORY: put_accessory(&packet); break;
-    case DCC_SIGNAL: put_signal(&packet); break;
-    case DCC_OTHER:
-        if (dcc_line(frame->bytes, frame->len, line) == 0) put(line);
-        break;
-    default: put_cv(&packet);
-    }
-}
-
 /* ---- listings ---- */
 
 /* How packets are written: in hex, as packet lines, or in plain words. */
 typedef enum { HEX, LINES, PLAIN } writing;
 
 static void put_packet(const dcc_frame *frame, writing how) {
-    char line[DCC_LINE];
-    if (how == PLAIN) {
-        put_plain_words(frame);
-    } else if (how == LINES && dcc_line(frame->bytes, frame->len, line) == 0) {
-        put(line);
+    char text[DCC_PLAIN];
+    if (how == PLAIN && dcc_plain(frame->bytes, frame->len, text) == 0) {
+        put(text);
+    } else if (how == LINES && dcc_line(frame->bytes, frame->len, text) == 0) {
+        put(text);
     } else {
         put_hex(frame);
     }
@@ -666,16 +540,16 @@ static const char *const lost_help =
     "      --spikes <US>  Join half-bits shorter than US microseconds, 1 to 25, with their neighbours\n"
     "  -h, --help         Print help\n\n"
     "It reads a capture from standard input, as `dcc show` does, and writes a line for each\n"
-    "packet that was sent but that no decoder hears:\n\n"
+    "packet that a decoder of this toolkit does not hear:\n\n"
     "  dcc lost --words < capture.txt\n"
     "  dcc lost --spikes 5 < capture.txt\n"
     "  echo '58*16 100*14 58*4 100*4 58*4 100*6 58*2 100*6 58*4 100*8 58*4' | dcc lost\n\n"
     "A line has the number of the last half-bit of the packet, the packet, and the causes:\n"
     "  preamble N               only N half-bits of ones before the packet, fewer than 20\n"
-    "  preamble N after P       half-bit P ends a rejection, and N are left after it\n"
+    "  preamble N after P       half-bit P ends a refusal, and N are left after it\n"
     "  ones N from A to B       N half-bits of ones outside 52 to 64 microseconds\n"
     "  zeros N from A to B      N half-bits of zeros outside 90 to 10000 microseconds\n"
-    "No packet is listed both here and by `dcc show`. A packet with a rejection inside it\n"
+    "No packet is listed both here and by `dcc show`. A packet with a refusal inside it\n"
     "can be listed here too. With --spikes US, half-bits shorter than US microseconds are\n"
     "joined with their neighbours, and a packet can have one more cause:\n"
     "  spikes N                 N such half-bits in the packet and its preamble\n"

@@ -184,13 +184,13 @@ static void a_heard_packet_is_not_lost(void) {
     HOLDS(is_untouched(&lost));
 }
 
-/* A run ends in the middle of a run of equal half-bits, and long runs take no longer. */
+/* A run ends in the middle of a run of equal half-bits. */
 static void a_run_is_taken_up_to_a_lost_packet(void) {
     static const uint16_t runs[9][2] =
         {{100, 14}, {58, 4}, {100, 4}, {58, 4}, {100, 6}, {58, 2}, {100, 6}, {58, 4}, {100, 8}};
     dcc_lost_packet lost = untouched;
     dcc_lost_new(&finder);
-    HOLDS(dcc_lost_push_run(&finder, 100, 4294967295, &lost) == 0 && dcc_lost_push_run(&finder, 58, 0, &lost) == 0);
+    HOLDS(dcc_lost_push_run(&finder, 100, 1000, &lost) == 0 && dcc_lost_push_run(&finder, 58, 0, &lost) == 0);
     HOLDS(dcc_lost_push_run(&finder, 58, 16, &lost) == 0);
     for (int i = 0; i < 9; i++) HOLDS(dcc_lost_push_run(&finder, runs[i][0], runs[i][1], &lost) == 0);
     HOLDS(is_untouched(&lost));
@@ -291,24 +291,22 @@ static void a_meter_takes_an_array(void) {
     HOLDS(!memcmp(&by_array, &one_by_one, sizeof by_array));
     dcc_meter_read(&by_array, &s);
     HOLDS(s.halves == 84 && s.packets == 1 && s.preamble == 28 && !s.has_gap);
-    /* a full meter refuses the whole array */
-    HOLDS(dcc_meter_push_run(&by_array, 58, 4294967211u - 83) == 1 && dcc_meter_push_many(&by_array, halves, 84) == 0);
-    HOLDS(dcc_meter_push_many(&by_array, halves, 83) == 1 && dcc_meter_push_many(&by_array, halves, 1) == 0);
-    dcc_meter_read(&by_array, &s);
-    HOLDS(s.halves == 4294967295u && s.packets == 1);
+    /* the meter refuses a run that would make it full */
+    HOLDS(dcc_meter_push_run(&by_array, 58, 4294967295u - 83) == 0);
+    HOLDS(!memcmp(&by_array, &one_by_one, sizeof by_array));
 }
 
-static void a_full_meter_takes_nothing(void) {
+static void a_run_for_a_full_meter_is_refused(void) {
     static dcc_meter meter;
     dcc_statistics s;
-    HOLDS(dcc_meter_push_run(&meter, 58, 4000000000u) == 1);
-    HOLDS(dcc_meter_push_run(&meter, 100, 294967296u) == 0);
+    HOLDS(dcc_meter_push_run(&meter, 58, 1000) == 1);
+    HOLDS(dcc_meter_push_run(&meter, 100, 4294966296u) == 0);
     dcc_meter_read(&meter, &s);
-    HOLDS(s.halves == 4000000000u && s.time == 232000000000u && s.zeros.count == 0);
-    HOLDS(dcc_meter_push_run(&meter, 100, 294967295u) == 1);
-    HOLDS(dcc_meter_push_run(&meter, 100, 1) == 0 && dcc_meter_push_run(&meter, 100, 0) == 1);
+    HOLDS(s.halves == 1000 && s.time == 58000 && s.zeros.count == 0);
+    HOLDS(dcc_meter_push_run(&meter, 100, 295) == 1 && dcc_meter_push_run(&meter, 100, 0) == 1);
+    HOLDS(dcc_meter_push_run(&meter, 100, 4294966001u) == 0);
     dcc_meter_read(&meter, &s);
-    HOLDS(s.halves == 4294967295u && is_tally(&s.zeros, 294967295, 29496729500u, 100, 100));
+    HOLDS(s.halves == 1295 && is_tally(&s.zeros, 295, 29500, 100, 100));
 }
 
 static void what_a_packet_says(void) {
@@ -338,6 +336,28 @@ static void no_frame_is_read(void) {
     HOLDS(dcc_read(speed, 2, &packet) == 1);
     HOLDS(dcc_read(wrong_error_byte, 3, &packet) == 2);
     HOLDS(packet.kind == 255);
+}
+
+static void plain_words(void) {
+    char text[DCC_PLAIN];
+    const uint8_t stop_of_all[] = {0, 0x71, 0x71}, service[] = {0x7c, 0, 10, 0x76};
+    const uint8_t consist[] = {3, 0x12, 10, 0x1b}, zeros[16] = {0};
+    memset(text, 7, sizeof text);
+    HOLDS(dcc_plain(speed, 2, text) == 1);
+    HOLDS(dcc_plain(wrong_error_byte, 3, text) == 2);
+    HOLDS(text[0] == 7);
+    HOLDS(dcc_plain(speed, 3, text) == 0);
+    HOLDS(!strcmp(text, "locomotive 3: step 1 of 28, forward"));
+    for (int i = 35; i < DCC_PLAIN; i++) HOLDS(text[i] == 0);
+    HOLDS(dcc_plain(stop_of_all, 3, text) == 0);
+    HOLDS(!strcmp(text, "all locomotives: emergency stop"));
+    HOLDS(dcc_plain(service, 4, text) == 0);
+    HOLDS(!strcmp(text, "on a programming track: CV1 := 10"));
+    HOLDS(dcc_plain(consist, 4, text) == 0);
+    HOLDS(!strcmp(text, "locomotive 3: join consist 10"));
+    HOLDS(dcc_plain(zeros, 15, text) == 0);
+    HOLDS(!strcmp(text, "frame 000000000000000000000000000000"));
+    HOLDS(dcc_plain(zeros, 16, text) == 1);
 }
 
 static void lines_and_their_faults(void) {
@@ -679,7 +699,10 @@ static void nothing_is_told_where_hearing_is_refused(void) {
             HOLDS(told == heard);
         }
     }
-    dcc_board board = {.number = 511};
+    const dcc_board all_boards = {.number = 511};
+    HOLDS(board_hears(&all_boards, "accessory 511 2 on") && board_hears(&all_boards, "loco all reset"));
+    HOLDS(!board_hears(&all_boards, "accessory 510 2 on"));
+    dcc_board board = {.number = 512};
     bool told = true;
     HOLDS(dcc_board_hears(&board, speed, 2, &told) == DCC_L1_LENGTH);
     HOLDS(dcc_board_hears(&board, wrong_error_byte, 3, &told) == DCC_L2_ERROR_BYTE);
@@ -1287,9 +1310,10 @@ int main(void) {
     a_meter_of_zeros_is_a_new_one();
     a_meter_computes_statistics();
     a_meter_takes_an_array();
-    a_full_meter_takes_nothing();
+    a_run_for_a_full_meter_is_refused();
     what_a_packet_says();
     no_frame_is_read();
+    plain_words();
     lines_and_their_faults();
     halves_are_sent_behind_14_to_40_ones();
     a_sender_gives_the_halves_one_by_one();

@@ -24,8 +24,17 @@ bool next_line(char line[LINE], uint32_t *len);
 /* Returns the next byte of the board's input, -1 at its end. */
 int read_byte(void);
 
-/* Reads the next byte of the serial line. Returns false if no byte has come. */
-bool take_byte(char *c);
+/* Begins to take the bytes of the serial lines. A serial line is a port, with a number from 0 on. */
+void begin_serial(void);
+
+/* Written by a station and called in the interrupt of a port: a byte has come. */
+void on_byte(uint8_t port, char c);
+
+/* Returns true if a port takes a byte now, without a wait. Returns false if the board has no such port. */
+bool has_room(uint8_t port);
+
+/* Writes a byte to a port, after has_room has returned true. */
+void give_byte(uint8_t port, char c);
 
 /* Written by a station with a programming track and called in an interrupt: the level of the programming track turns
  * now. Returns the microseconds to the next turn, or 0 if the track has no power. The board then asks again after a
@@ -34,6 +43,15 @@ uint16_t on_programming_timer(void);
 
 /* Turns the power of the main track on or off. */
 void set_power(bool is_on);
+
+/* Returns the current of the main track in milliamperes, 0 if the board does not measure it. */
+uint16_t main_current(void);
+
+/* Written by a station: the most current of the main track in milliamperes. */
+extern const uint16_t most_current;
+
+/* The station has turned the power off, because the main track drew too much current. */
+void notify_overload(void);
 
 /* Returns true if the decoder on the programming track draws at least 60 mA more than at rest. */
 bool draws_current(void);

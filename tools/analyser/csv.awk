@@ -8,7 +8,7 @@ form == "csv" && /^[;#]/ {
     if (match($0, /[Ss]ample ?rate: /)) rate = hertz(substr($0, RSTART + RLENGTH))
     if (match($0, /Channels \([0-9]+\/[0-9]+\): */)) {
         told_names = split(substr($0, RSTART + RLENGTH), told_name, ", ")
-        told_channels = substr($0, RSTART + length("Channels (")) + 0
+        told_channels = decimal(substr($0, RSTART + length("Channels (")))
     }
     next
 }
@@ -110,13 +110,13 @@ function columns_of(n) { return n " column" (n == 1 ? "" : "s") }
 
 # a time in the unit of its column, nothing where it is none
 function time_of(text,    part) {
-    if (length(text) > 100) return ""
+    if (length(text) > MOST_OF_TIME) return ""
     if (separator != ",") sub(/,/, ".", text)
-    if (text ~ /^[-+]?[0-9]*\.?[0-9]+([eE][-+]?0?[0-9][0-9]?)?$/) return text + 0
+    if (text ~ /^[-+]?[0-9]*\.?[0-9]+([eE][-+]?0?[0-9][0-9]?)?$/) return decimal(text)
     # a date and a time of day, as 2026-11-25T18:00:00.000200000+00:00, are the seconds of a month
     if (text !~ /^[0-9]+-[0-9]+-[0-9]+[T ][0-9]+:[0-9]+:[0-9]+(\.[0-9]+)?(Z| ?[-+][0-9:]+)?$/) return ""
     split(text, part, /[-T:+Z ]/)
-    return ((part[3] * 24 + part[4]) * 60 + part[5]) * 60 + part[6]
+    return ((decimal(part[3]) * 24 + decimal(part[4])) * 60 + decimal(part[5])) * 60 + decimal(part[6])
 }
 
 # of the unit of the first column, as Time [s], Time(ms) or nanoseconds; 0 where it is no time
@@ -129,5 +129,8 @@ function microseconds_of(text) {
     return text ~ /milli|[^a-z]ms/ ? 1e3 : 1e6
 }
 
-# as 24 MHz
-function hertz(text) { return text * (text ~ /G/ ? 1e9 : text ~ /M/ ? 1e6 : text ~ /k/ ? 1e3 : 1) }
+# of a rate as 24 MHz, 0 where it is none
+function hertz(text) {
+    if (text !~ /^ *[0-9]+(\.[0-9]+)? *([kMGH]|$)/) return 0
+    return decimal(text) * (text ~ /G/ ? 1e9 : text ~ /M/ ? 1e6 : text ~ /k/ ? 1e3 : 1)
+}

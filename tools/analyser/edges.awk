@@ -2,14 +2,24 @@
 # capture with a word for each time between two edges, in whole microseconds. -v channel=.. chooses a channel, otherwise
 # it is the first. tools/to-capture calls the three scripts.
 
-# the name of a channel is text, even if it is a number
-BEGIN { channel = channel "" }
+# the name of a channel is text, even if it is a number. A time or unit has at most so many characters
+BEGIN {
+    channel = channel ""
+    MOST_OF_TIME = 100
+    MOST_OF_UNIT = 20
+}
 
 # ends the reading: status 1, and on standard error what was found and what to write
 function refuse(text) {
     print "to-capture: " text > "/dev/stderr"
     refused = 1
     exit 1
+}
+
+# the number that digits spell in decimal. busybox awk reads digits behind a 0 as octal
+function decimal(text) {
+    sub(/^0+/, "", text)
+    return text + 0
 }
 
 # text of the file within such a sentence: cut, and without bytes that a terminal would obey
@@ -22,10 +32,10 @@ function quoted(text) { return "\"" plain(text) "\"" }
 
 function refuse_line(text) { refuse("line " NR ": " text) }
 
-# a channel of the file; in a VCD file it has an id
+# a channel of the file; in a VCD file it has an id. An id is text, even if it is a number: 1 and 01 are two ids
 function add_channel(name, id) {
     name_of[++channels] = name
-    id_of[channels] = id
+    id_of[channels] = id ""
 }
 
 function label(place) { return name_of[place] (id_of[place] == "" ? "" : " (" id_of[place] ")") }
@@ -100,7 +110,7 @@ NR == 1 {
     if (index($0, "PK") == 1)
         refuse("this is a zip archive, as .sr of sigrok and PulseView, .sal of Logic 2 and .dsl of DSView are: " \
             "export it as VCD or CSV, as by sigrok-cli -i track.sr -O vcd")
-    if (index($0, "\377\376") == 1)
+    if (index($0, "\377\376") == 1 || index($0, "\376\377") == 1)
         refuse("this text is UTF-16, as PowerShell writes it behind >: let sigrok-cli write the file, by -o track.vcd")
     # a byte order mark
     sub(/^\357\273\277/, "")

@@ -20,12 +20,13 @@ function vcd_word(word,    first) {
         else text = text " " word
     } else if (vector != "") {
         # behind a value of several bits stands its id; a single bit may be written so too
-        if (word == id_of[picked] && vector ~ /^[bB].*[01]$/) take(at, substr(vector, length(vector)))
+        if (picked && word == id_of[picked] && vector ~ /^[bB].*[01]$/) take(at, substr(vector, length(vector)))
         vector = ""
     } else if (first == "#") {
         vcd_time(word)
     } else if (first == "0" || first == "1") {
-        if (substr(word, 2) == id_of[picked]) take(at, first)
+        # a digit before the channel is known is the word of an extension, as $attrbegin of GTKWave
+        if (picked && substr(word, 2) == id_of[picked]) take(at, first)
     } else if (first ~ /[bBrRsS]/) {
         vector = word
     } else if (word ~ /^\$(comment|date|enddefinitions|scope|timescale|upscope|var|version)$/) {
@@ -38,11 +39,13 @@ function vcd_word(word,    first) {
 function end_command(    part) {
     split(text, part, " ")
     if (command == "$timescale") {
-        text = part[1] part[2]
-        unit = text * microseconds[substr(text, match(text, /[a-z]/))]
+        gsub(/ /, "", text)
+        unit = 0
+        if (length(text) <= MOST_OF_UNIT && text ~ /^[0-9]+[a-z]+$/)
+            unit = decimal(text) * microseconds[substr(text, match(text, /[a-z]/))]
     }
     # a module may have the same wire by the same name
-    if (command == "$var" && part[2] == 1 && !known[part[4] part[5], part[3]]++) add_channel(part[4] part[5], part[3])
+    if (command == "$var" && part[2] == "1" && !known[part[4] part[5], part[3]]++) add_channel(part[4] part[5], part[3])
     if (command == "$enddefinitions") begin_values()
     command = ""
 }
@@ -55,8 +58,8 @@ function begin_values() {
 function vcd_time(word,    time) {
     if (!picked) begin_values()
     if (!unit) refuse("no $timescale, as $timescale 1 ns $end, stands before the times: they have no unit")
-    if (word !~ /^#[0-9]+$/) refuse_line(quoted(word) " is no time")
-    time = substr(word, 2) * unit
+    if (word !~ /^#[0-9]+$/ || length(word) > MOST_OF_TIME) refuse_line(quoted(word) " is no time")
+    time = decimal(substr(word, 2)) * unit
     if (time < at) refuse_line("its time lies before that of the line above")
     at = time
 }

@@ -17,7 +17,8 @@
 
 #define FUNCTIONS(X) \
     X(framer_new) X(push) X(push_run) X(push_many) X(lost_new) X(lost_push) X(lost_push_run) X(lost_push_many) \
-    X(meter_new) X(meter_push_run) X(meter_push_many) X(meter_read) X(read) X(line) X(frame_of_line) \
+    X(meter_new) X(meter_push_run) X(meter_push_many) X(meter_read) X(read) X(line) X(plain) \
+    X(frame_of_line) \
     X(frame_of_packet) X(halves) X(sender_start) X(sender_half) X(loco_new) X(loco_apply) X(loco_hears) X(board_new) \
     X(board_apply) X(board_hears) X(service_new) X(service_apply) X(loco_power_up) X(service_power_up) \
     X(small_loco_new) X(small_loco_cv) X(small_loco_apply) X(small_loco_hears) X(small_service_new) \
@@ -229,9 +230,11 @@ static void add_off_limits(const dcc_off_limits *off) {
     add(off->count), add(off->least), add(off->most);
 }
 
+/* The time of a run grows with n, so only the first run has more than 300 half-bits. */
 static void call_finder(uint16_t us, uint32_t n) {
     dcc_lost_packet lost;
     uint32_t result;
+    if (n > 300) n = is_first ? 66000 : n % 300;
     memset(&lost, 1, sizeof lost);
     do {
         if (n > 1 && n <= 8) {
@@ -272,10 +275,10 @@ static void read_meter(void) {
     add(statistics.lost), add(statistics.preamble), add(statistics.has_preamble), add(statistics.has_gap);
 }
 
-/* A long run takes 66,000 steps, so only the first one is long. */
+/* The meter counts a preamble up to 65,535 half-bits, so its first run has more. */
 static void call_meter(uint16_t us, uint32_t n) {
     uint16_t halves[4] = {us, us, us, us};
-    if (n > 300 && !is_first) n %= 300;
+    if (n > 300) n = is_first ? 66000 : n % 300;
     if (n <= 4 && one_of(3)) {
         called(F_meter_push_many);
         add(dcc_meter_push_many(&meter, halves, n));
@@ -283,11 +286,13 @@ static void call_meter(uint16_t us, uint32_t n) {
         called(F_meter_push_run);
         add(dcc_meter_push_run(&meter, us, n));
     }
+    /* after a half-bit, a run of 2^32 - 1 half-bits is refused */
+    if (n > 0 && one_of(20)) add(dcc_meter_push_run(&meter, us, 4294967295u));
     if (first_or_one_of(100)) read_meter();
 }
 
 static void call_packets(void) {
-    static char text[DCC_LINE], at_end[DCC_LINE + 8];
+    static char text[DCC_LINE], plain[DCC_PLAIN], at_end[DCC_LINE + 8];
     static uint16_t halves[DCC_HALVES];
     dcc_packet packet;
     dcc_frame back;
@@ -304,6 +309,9 @@ static void call_packets(void) {
     called(F_line);
     add(dcc_line(frame, len, text));
     add_bytes(text, sizeof text);
+    called(F_plain);
+    add(dcc_plain(frame, len, plain));
+    add_bytes(plain, sizeof plain);
     size = (uint8_t)strlen(text);
     at = below((uint16_t)(size + 1));
     if (one_of(3)) text[at] = " \t0123459xs\r#lz"[below(15)];

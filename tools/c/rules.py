@@ -92,9 +92,15 @@ for width in (8, 16, 32, 64):
     for name in "umin umax smax uadd.sat usub.sat".split():
         add(f"{name.replace('.', '_')}_of_{width}", cut("a", width, "x"), cut("b", width, "y"),
             f"%r = call i{width} @llvm.{name}.i{width}(i{width} %x, i{width} %y)", returned("r", width))
-    add(f"cttz_of_{width}", cut("a", width, "x"),
-        f"%r = call range(i{width} 0, {width + 1}) i{width} @llvm.cttz.i{width}(i{width} %x, i1 false)",
+    for name in ("cttz", "ctlz"):
+        add(f"{name}_of_{width}", cut("a", width, "x"),
+            f"%r = call range(i{width} 0, {width + 1}) i{width} @llvm.{name}.i{width}(i{width} %x, i1 false)",
+            returned("r", width))
+    add(f"abs_of_{width}", cut("a", width, "x"), f"%r = call i{width} @llvm.abs.i{width}(i{width} %x, i1 false)",
         returned("r", width))
+    if width > 8:
+        add(f"bswap_of_{width}", cut("a", width, "x"), f"%r = call i{width} @llvm.bswap.i{width}(i{width} %x)",
+            returned("r", width))
 
 # ---- numbers of 128 bits ----
 
@@ -115,11 +121,13 @@ HALVES = """%p = alloca [16 x i8], align 16
     %w = mul i64 %u, 31
     %z = xor i64 %t, %w
     ret i64 %z"""
-for name in "add sub and or xor".split():
+for name in "add sub mul and or xor".split():
     add(f"{name}_wide", WIDE, f"%r = {name} i128 %x, %y0", HALVES)
     add(f"{name}_wide_both", WIDE, f"%r = {name} i128 %y0, %x", HALVES)
     add(f"{name}_wide_near", WIDE, f"%r = {name} i128 %x, %y", HALVES)
     add(f"{name}_wide_written", WIDE, f"%r = {name} i128 %x, {2**127 + 2**64 - 5 - 2**128}", HALVES)
+for name, of in (("", "%x, i128 %y0"), ("_both", "%y0, i128 %x"), ("_near", "%x, i128 %y")):
+    add(f"usub_sat_wide{name}", WIDE, f"%r = call i128 @llvm.usub.sat.i128(i128 {of})", HALVES)
 for name in ("shl", "lshr"):
     add(f"{name}_wide", WIDE, f"%r = {name} i128 %x, %n", HALVES)
     for by in (0, 1, 63, 64, 65, 127):
@@ -135,6 +143,76 @@ for width in (1, 5, 8, 16, 32, 63, 64):
     add(f"sext_wide_{width}", cut("a", width, "x"), f"%r = sext i{width} %x to i128", HALVES)
 for width in (1, 5, 16, 32, 63):
     add(f"trunc_wide_{width}", WIDE, f"%r = trunc i128 %x to i{width}", returned("r", width))
+
+# ---- numbers of floating point ----
+
+DOUBLES = """%i = uitofp i64 %a to double
+    %j = uitofp i64 %b to double
+    %k = uitofp i64 %c to double
+    %d = fdiv double %i, %k
+    %t = trunc i64 %c to i1
+    %e = select i1 %t, double %j, double 0x7FF8000000000000"""
+OF_DOUBLE = """%p = alloca double, align 8
+    store double %r, ptr %p, align 8
+    %v = load double, ptr %p, align 8
+    store double %v, ptr %p, align 8
+    %z = load i64, ptr %p, align 8
+    ret i64 %z"""
+for width in WIDTHS:
+    add(f"uitofp_{width}", cut("a", width, "x"), f"%r = uitofp i{width} %x to double", OF_DOUBLE)
+for name in ("fadd", "fmul", "fdiv"):
+    add(f"{name}_of_doubles", DOUBLES, f"%r = {name} double %d, %j", OF_DOUBLE)
+    add(f"{name}_both", DOUBLES, f"%r = {name} double %j, %d", OF_DOUBLE)
+    for number, of in enumerate(("1.000000e+00", "0x3FB999999999999A", "-2.500000e-01", "1.000000e+22")):
+        add(f"{name}_written_{number}", DOUBLES, f"%r = {name} double %d, {of}", OF_DOUBLE)
+for name in ("olt", "ugt"):
+    add(f"{name}_of_doubles", DOUBLES, f"%r = fcmp {name} double %d, %e", returned("r", 1))
+    add(f"{name}_of_near", DOUBLES, f"%r = fcmp {name} double %i, %j", returned("r", 1))
+    add(f"{name}_written", DOUBLES, f"%r = fcmp {name} double %d, 1.000000e+03", returned("r", 1))
+add("fence", DOUBLES, "%m = fmul double %d, %j",
+    "%f = call double @llvm.arithmetic.fence.f64(double %m)",
+    "%r = fadd double %f, %i", OF_DOUBLE)
+add("phi_of_doubles", DOUBLES, "br i1 %t, label %yes, label %no", "yes:", "%x = fadd double %d, %j", "br label %no",
+    "no:", "%g = phi double [ %i, %start ], [ %x, %yes ]", "%r = freeze double %g", OF_DOUBLE)
+
+# ---- rows of bytes ----
+
+ROWS = """%p = alloca [80 x i8], align 8
+    call void @llvm.memset.p0.i64(ptr align 8 %p, i8 7, i64 80, i1 false)
+    store i64 %a, ptr %p, align 8
+    %p1 = getelementptr i8, ptr %p, i64 8
+    store i64 %b, ptr %p1, align 8
+    %p2 = getelementptr i8, ptr %p, i64 16
+    store i64 %c, ptr %p2, align 8
+    %p3 = getelementptr i8, ptr %p, i64 29
+    store i64 %a, ptr %p3, align 1
+    %p4 = getelementptr i8, ptr %p, i64 55
+    store i64 %b, ptr %p4, align 1
+    %q = getelementptr i8, ptr %p, i64 13"""
+for width in (8, 16, 32, 64):
+    row, bits = f"<{width} x i8>", f"<{width} x i1>"
+    both = f"%v = load {row}, ptr %p, align 1\n%w = load {row}, ptr %q, align 1"
+    number = f"%m = bitcast {bits} %r to i{width}"
+    for name in ("eq", "ne"):
+        add(f"{name}_of_rows_{width}", ROWS, both, f"%r = icmp {name} {row} %v, %w", number, returned("m", width))
+        add(f"{name}_of_rows_written_{width}", ROWS, both, f"%r = icmp {name} {row} %v, splat (i8 -1)", number,
+            returned("m", width))
+        add(f"{name}_of_rows_zero_{width}", ROWS, both, f"%r = icmp {name} {row} %w, zeroinitializer", number,
+            returned("m", width))
+    add(f"slt_of_rows_{width}", ROWS, both, f"%r = icmp slt {row} %v, zeroinitializer", number, returned("m", width))
+    add(f"or_of_bits_of_rows_{width}", ROWS, both, f"%e = icmp eq {row} %v, %w",
+        f"%f = icmp slt {row} %w, zeroinitializer", f"%r = or {bits} %e, %f", number, returned("m", width))
+    add(f"or_of_bytes_of_rows_{width}", ROWS, both, f"%o = or {row} %v, %w", f"%r = icmp eq {row} %o, splat (i8 7)",
+        number, returned("m", width))
+    add(f"sext_of_rows_{width}", ROWS, both, f"%e = icmp ne {row} %v, %w", f"%x = sext {bits} %e to {row}",
+        f"%o = or {row} %x, splat (i8 -128)", f"%r = icmp eq {row} %o, splat (i8 -1)", number, returned("m", width))
+    for first, count in ((8, 8), (0, width // 2), (width // 2, width // 2)):
+        if count >= 8 and first + count <= width:
+            places = ", ".join(f"i32 {first + it}" for it in range(count))
+            add(f"part_of_rows_{width}_{first}_{count}", ROWS, both,
+                f"%o = shufflevector {row} %v, {row} poison, <{count} x i32> <{places}>",
+                f"%r = icmp slt <{count} x i8> %o, zeroinitializer", f"%m = bitcast <{count} x i1> %r to i{count}",
+                returned("m", count))
 
 # ---- from block to block ----
 
@@ -183,6 +261,24 @@ add("phis_of_steps", """%p = alloca [32 x i8], align 1
     %r0 = mul i64 %l, 3
     %r = xor i64 %r0, %h
     ret i64 %r""")
+add("values_of_later_blocks", """%p = alloca [32 x i8], align 1
+    call void @llvm.memset.p0.i64(ptr %p, i8 1, i64 32, i1 false)
+    store i64 %a, ptr %p, align 1
+    br label %first
+    again:
+    store i8 7, ptr %q1, align 1
+    br i1 %e, label %out, label %first
+    first:
+    %q = phi ptr [ %p, %start ], [ %q1, %again ]
+    %n = phi i64 [ 0, %start ], [ %m, %again ]
+    %v = load i8, ptr %q, align 1
+    %q1 = getelementptr i8, ptr %q, i64 2
+    %m = add i64 %n, 1
+    %e = icmp ugt i64 %m, 5
+    br label %again
+    out:
+    %r = load i64, ptr %p, align 1
+    ret i64 %r""")
 add("branches", """%s = trunc i64 %a to i1
     %t = trunc i64 %b to i1
     br i1 %s, label %one, label %two
@@ -228,6 +324,9 @@ add("unused", "%s = icmp eq i64 %a, %a", "call void @llvm.assume(i1 %s)", "%x = 
 
 # ---- calls and structures ----
 
+# the names of two functions begin with these 70 characters, and a compiler of C99 may compare only 63
+LONG = '"module::slice_T_starts_with__i8_31_core_cmp_numbers_U8PartialEq__and_a'
+
 add("calls", """%x = trunc i64 %a to i8
     %y = trunc i64 %b to i16
     %s = call { i8, i16 } @pair(i8 %x, i16 %y)
@@ -243,6 +342,24 @@ add("calls_for_effect", """%p = alloca i64, align 8
     call fastcc void @"module::Type::add_to"(ptr noundef nonnull %p, i64 %b)
     %d = call i64 @"module::double"(ptr %p)
     %r = load i64, ptr %p, align 8
+    ret i64 %r""")
+add("calls_of_long_names", f"%x = call i64 @{LONG}_more\"(i64 %a)", f"%y = call i64 @{LONG}_less\"(i64 %b)",
+    "%r = xor i64 %x, %y", "ret i64 %r")
+add("calls_of_the_system", "%p = alloca i64, align 8", "store i64 %a, ptr %p, align 8",
+    "%s = call i64 @outer(i64 %b, ptr nonnull %p)", "%v = load i64, ptr %p, align 8", "%r = xor i64 %s, %v",
+    "ret i64 %r")
+add("calls_by_address", """%p = alloca i64, align 8
+    store i64 %a, ptr %p, align 8
+    %i = urem i64 %b, 2
+    %s = getelementptr ptr, ptr @codes, i64 %i
+    %f = load ptr, ptr %s, align 8
+    %d = call i64 %f(ptr noundef %p)
+    %g = select i1 true, ptr @"module::double", ptr null
+    %e = call i64 %g(ptr noundef %p)
+    %v = load i64, ptr %p, align 8
+    %r0 = mul i64 %d, 5
+    %r1 = xor i64 %r0, %e
+    %r = xor i64 %r1, %v
     ret i64 %r""")
 add("structures", """%x = trunc i64 %a to i8
     %y = trunc i64 %b to i16
@@ -304,7 +421,7 @@ add("tables", """%x = urem i64 %a, 4
     %q = load ptr, ptr %s, align 8
     %f = load i8, ptr %q, align 1
     %y = urem i64 %b, 3
-    %g = getelementptr inbounds i8, ptr @first, i64 %y
+    %g = getelementptr inbounds i8, ptr @static.1, i64 %y
     %h = load i8, ptr %g, align 1
     %w = getelementptr inbounds i64, ptr @long, i64 %y
     %u = load i64, ptr %w, align 8
@@ -316,6 +433,63 @@ add("tables", """%x = urem i64 %a, 4
     %r2 = shl i64 %h1, 32
     %r3 = or i64 %r1, %r2
     %r = xor i64 %r3, %u
+    ret i64 %r""")
+add("constants_of_several_types", """%i = urem i64 %a, 48
+    %g = getelementptr i8, ptr @mixed, i64 8
+    %n = load i64, ptr %g, align 8
+    %q = load ptr, ptr @mixed, align 8
+    %t = load i8, ptr %q, align 1
+    %k = getelementptr i8, ptr @mixed, i64 16
+    %f = load ptr, ptr %k, align 8
+    %p = alloca i64, align 8
+    store i64 %b, ptr %p, align 8
+    %d = call i64 %f(ptr %p)
+    %m = urem i64 %c, 24
+    %o = getelementptr i8, ptr @mixed, i64 24
+    %h = getelementptr i8, ptr %o, i64 %m
+    %y = load i8, ptr %h, align 1
+    %t1 = zext i8 %t to i64
+    %y1 = zext i8 %y to i64
+    %r0 = mul i64 %d, 3
+    %r1 = xor i64 %r0, %n
+    %r2 = shl i64 %t1, 50
+    %r3 = xor i64 %r1, %r2
+    %r4 = shl i64 %y1, 20
+    %r = xor i64 %r3, %r4
+    ret i64 %r""")
+add("places_in_constants", """%l = load i8, ptr getelementptr inbounds nuw (i8, ptr @static.1, i64 2), align 1
+    %m = load ptr, ptr getelementptr (i8, ptr @inside, i64 8), align 8
+    %v = load i8, ptr %m, align 1
+    %o = getelementptr i8, ptr @ring, i64 8
+    %u = load ptr, ptr %o, align 8
+    %w = icmp eq ptr %u, @ring
+    %y0 = zext i1 %w to i64
+    %y1 = add i64 %b, %y0
+    %y = urem i64 %y1, 3
+    %g = getelementptr i8, ptr @static.1, i64 %y
+    %n = ptrtoint ptr %g to i64
+    %d = sub i64 %n, ptrtoaddr (ptr @static.1 to i64)
+    %i = urem i64 %c, 4
+    %h = getelementptr i8, ptr @slashes, i64 %i
+    %s = load i8, ptr %h, align 1
+    %l1 = zext i8 %l to i64
+    %v1 = zext i8 %v to i64
+    %s1 = zext i8 %s to i64
+    %r0 = shl i64 %l1, 30
+    %r1 = shl i64 %v1, 20
+    %r2 = shl i64 %s1, 10
+    %r3 = or i64 %r0, %r1
+    %r4 = or i64 %r2, %d
+    %r = or i64 %r3, %r4
+    ret i64 %r""")
+add("pointers_of_numbers", """%p = alloca [16 x i8], align 8
+    call void @llvm.memset.p0.i64(ptr align 8 %p, i8 7, i64 16, i1 false)
+    store i64 %a, ptr %p, align 8
+    %n = ptrtoint ptr %p to i64
+    %i = urem i64 %b, 9
+    %m = add i64 %n, %i
+    %q = inttoptr i64 %m to ptr
+    %r = load i64, ptr %q, align 1
     ret i64 %r""")
 add("steps", """%p = alloca [64 x i8], align 8
     call void @llvm.memset.p0.i64(ptr align 8 %p, i8 3, i64 64, i1 false)
@@ -414,13 +588,42 @@ add("shared_places", """%p = alloca i64, align 8
     %r = xor i64 %r2, %z
     ret i64 %r""")
 
+MIXED = (
+    r'<{ ptr, [8 x i8], ptr, [16 x i8], [8 x i8] }> <{ ptr @second, [8 x i8] c"\01\02abc\FFde", '
+    r'ptr @"module::triple", [16 x i8] zeroinitializer, [8 x i8] c"12345678" }>'
+)
 HEAD = r"""target datalayout = "e-m:e-p270:32:32-p271:32:32-p272:64:64-i64:64-i128:128-f80:128-n8:16:32:64-S128"
 target triple = "x86_64-unknown-linux-gnu"
 @numbers = private unnamed_addr constant [4 x i16] [i16 1, i16 -2, i16 300, i16 32767], align 2
-@first = private unnamed_addr constant [3 x i8] c"a\00\FF", align 1
+@static.1 = private unnamed_addr constant [3 x i8] c"a\00\FF", align 1
 @second = private unnamed_addr constant [1 x i8] c"z", align 1
-@places = private unnamed_addr constant [4 x ptr] [ptr @first, ptr @second, ptr @second, ptr @first], align 8
+@places = private unnamed_addr constant [4 x ptr] [ptr @static.1, ptr @second, ptr @second, ptr @static.1], align 8
 @long = private unnamed_addr constant [3 x i64] [i64 -9223372036854775808, i64 5, i64 1099511627776], align 8
+
+@slashes = private unnamed_addr constant [4 x i8] c"a\\b\22", align 1
+@inside = private constant [2 x ptr] [ptr @second, ptr getelementptr inbounds (i8, ptr @static.1, i64 2)], align 8
+@ring = private constant [2 x ptr] [ptr @static.1, ptr @ring], align 8
+@codes = private constant [2 x ptr] [ptr @"module::double", ptr @"module::triple"], align 8
+@mixed = private constant MIXED, align 8
+
+declare noundef i64 @outer(i64 noundef, ptr noundef captures(none)) local_unnamed_addr
+
+; the first functions of a program. The translator leaves out the first of the two
+define i32 @main() {
+start:
+  call void asm sideeffect "nop", ""()
+  %r = call i32 @"dcc::main+start"()
+  ret i32 %r
+}
+
+define internal i32 @"dcc::main+start"() {
+start:
+  %p = alloca i64, align 8
+  store i64 77, ptr %p, align 8
+  %s = call i64 @outer(i64 5, ptr %p)
+  %r = trunc i64 %s to i32
+  ret i32 %r
+}
 
 define internal { i8, i16 } @pair(i8 %x, i16 %y) {
 start:
@@ -440,6 +643,26 @@ start:
   %r = add i64 %v, %y
   store i64 %r, ptr %x, align 8
   ret void
+}
+
+define internal i64 @LONG_more"(i64 %x) {
+start:
+  %r = add i64 %x, 3
+  ret i64 %r
+}
+
+define internal i64 @LONG_less"(i64 %x) {
+start:
+  %r = mul i64 %x, 5
+  ret i64 %r
+}
+
+define internal i64 @"module::triple"(ptr %x) {
+start:
+  %v = load i64, ptr %x, align 8
+  %r = mul i64 %v, 3
+  store i64 %r, ptr %x, align 8
+  ret i64 %r
 }
 
 define internal i64 @"module::double"(ptr %x) {
@@ -463,6 +686,13 @@ static uint64_t next(void) {
     state ^= state << 17;
     return state % 3 ? state >> (state % 61) : edges[state / 3 % 20];
 }
+/* a function of the system, for the module and for the C */
+uint64_t outer(uint64_t x, unsigned char *place) {
+    place[1] ^= 9;
+    return x * 31 + place[0];
+}
+uint64_t dcc_system_outer(uint64_t x, unsigned char *place) { return outer(x, place); }
+uint32_t dcc_main(void), module_main(void);
 static unsigned long wrong, tried;
 typedef uint64_t function(uint64_t, uint64_t, uint64_t);
 static void compare(const char *name, function *f, function *g) {
@@ -486,7 +716,7 @@ def names(is_short):
 
 
 def module(wanted):
-    return HEAD + "\n".join(FUNCTIONS[it] for it in wanted)
+    return HEAD.replace("MIXED", MIXED).replace("LONG", LONG) + "\n".join(FUNCTIONS[it] for it in wanted)
 
 
 def header(wanted):
@@ -497,5 +727,6 @@ def driver(wanted):
     calls = "".join(f'    compare("{it}", {it}, c_{it});\n' for it in wanted)
     return (
         header(wanted) + header(wanted).replace(" dcc_", " c_dcc_") + DRIVER + "int main(void) {\n" + calls
+        + '    if (dcc_main() != module_main()) wrong++, printf("the first function of a program\\n");\n'
         + '    printf("%lu calls, %lu differ\\n", tried, wrong);\n    return wrong > 0;\n}\n'
     )

@@ -21,7 +21,7 @@ static dcc_lost_packet lost;
 static dcc_meter meter;
 static dcc_statistics statistics;
 static dcc_packet packet;
-static char line[DCC_LINE];
+static char line[DCC_LINE], text[DCC_PLAIN];
 static uint16_t sent[DCC_HALVES];
 static dcc_frame frame;
 static const dcc_timing timing = DCC_MAIN_TIMING;
@@ -75,6 +75,7 @@ static void make_packet(void) {
 }
 static void frame_packet(void) { dcc_frame_of_packet(&packet, &frame); }
 static void write_line(void) { dcc_line(GIVEN, line); }
+static void write_words(void) { dcc_plain(GIVEN, text); }
 static void send(void) { dcc_halves(GIVEN, 16, sent); }
 static void start_sender(void) { dcc_sender_start(&sender, GIVEN, &timing); }
 /* the 84 half-bits of a packet of three bytes, one after the other */
@@ -348,6 +349,7 @@ int main(void) {
     measure("dcc_meter_read", read_meter, 100);
     measure("dcc_read", read_frame, frame_count);
     measure("dcc_line", write_line, frame_count);
+    measure("dcc_plain", write_words, frame_count);
     measure("dcc_frame_of_line", read_line, frame_count);
     measure_behind("dcc_frame_of_packet", make_packet, frame_packet, frame_count);
     measure("dcc_halves", send, frame_count);

@@ -2,6 +2,7 @@
 
 #include "DccTurnouts.h"
 
+__attribute__((weak)) void notifyDccMsg(const dcc_frame &) {}
 __attribute__((weak)) void notifyDccAccTurnoutBoard(uint16_t, uint8_t, uint8_t, uint8_t) {}
 __attribute__((weak)) void notifyDccAccTurnoutOutput(uint16_t, uint8_t, uint8_t) {}
 __attribute__((weak)) void notifyDccAccOutputChange(uint16_t, uint8_t, bool) {}
@@ -10,6 +11,7 @@ __attribute__((weak)) void notifyDccSigOutputState(uint16_t, uint8_t) {}
 bool DccAccessory::begin(uint16_t number, uint32_t now) {
     hasBoard = dcc_board_new(&board, number) == 0;
     track.begin(now);
+    packets.restart();
     return hasBoard;
 }
 
@@ -18,7 +20,10 @@ void DccAccessory::process() {
     dcc_outcome seen;
     dcc_packet packet;
     while (track.next(&half, &seen)) {
-        if (!hasBoard || seen.refusal != 0 || dcc_read(seen.frame.bytes, seen.frame.len, &packet) != 0) continue;
+        if (seen.refusal != 0 || dcc_read(seen.frame.bytes, seen.frame.len, &packet) != 0) continue;
+        packets.restart();
+        notifyDccMsg(seen.frame);
+        if (!hasBoard) continue;
         dccHearBoard(board, seen.frame, packet);
     }
 }

@@ -3,6 +3,7 @@
 #ifndef DCC_ACCESSORY_H
 #define DCC_ACCESSORY_H
 
+#include "DccPacketTimer.h"
 #include "DccTrack.h"
 
 class DccAccessory {
@@ -12,17 +13,22 @@ public:
     bool begin(uint16_t number, uint32_t now);
 
     /* Call one of them in an interrupt: at the end of each half-bit, or at each change of the pin with micros(). */
-    void halfBit(uint16_t us) { track.halfBit(us); }
-    void edge(uint32_t now) { track.edge(now); }
+    DCC_IN_RAM void halfBit(uint16_t us) { track.halfBit(us); }
+    DCC_IN_RAM void edge(uint32_t now) { track.edge(now); }
 
     /* Call it in loop(). Applies the packets that were found, and calls the callbacks. */
     void process();
+
+    /* Returns the milliseconds since the last packet of the track, or since begin. A packet for another decoder counts
+     * too. After 49 days without a packet, the milliseconds begin again at 0. */
+    uint32_t packetAge() const { return packets.age(); }
 
     /* The state of the decoder (dcc.h). */
     dcc_board board;
 
 private:
     DccTrack track;
+    DccPacketTimer packets;
     bool hasBoard;
 };
 
@@ -31,6 +37,10 @@ void dccHearBoard(dcc_board &board, const dcc_frame &frame, const dcc_packet &pa
 
 /* Callbacks: write those that you want. A callback that you do not write does nothing. Each is called in loop(), after
  * a packet for the board. */
+
+/* A packet is on the track, for this decoder or for another. Each decoder calls it before it hears the packet. The
+ * callback can read the packet with dcc_read. */
+void notifyDccMsg(const dcc_frame &frame);
 
 /* A packet named this output of the board, also if the output keeps its state, or has changed it. The arguments are
  * the pair, 0 to 3, the output of the pair, and whether it is on. */

@@ -6,6 +6,7 @@ __attribute__((weak)) void notifyDccSpeed(uint8_t, uint8_t, bool) {}
 __attribute__((weak)) void notifyDccFunc(uint8_t, bool) {}
 __attribute__((weak)) void notifyDccState(uint8_t, bool) {}
 __attribute__((weak)) void notifyCVChange(uint16_t, uint8_t) {}
+__attribute__((weak)) void notifyCVResetFactoryDefault() {}
 __attribute__((weak)) void notifyDccReset() {}
 __attribute__((weak)) void notifyCVAck() {}
 __attribute__((weak)) void notifyServiceMode(bool) {}
@@ -43,6 +44,7 @@ void DccDecoder::powerUp(uint32_t now, uint16_t boardNumber) {
 void DccDecoder::listen(uint32_t now, uint16_t boardNumber) {
     hasBoard = dcc_board_new(&board, boardNumber) == 0;
     track.begin(now);
+    packets.restart();
 }
 
 void DccDecoder::setMainOnly(bool mainOnly) {
@@ -57,10 +59,12 @@ void DccDecoder::process() {
     dcc_packet packet;
     while (track.next(&half, &seen)) {
         if (seen.refusal != 0 || dcc_read(seen.frame.bytes, seen.frame.len, &packet) != 0) continue;
+        packets.restart();
+        notifyDccMsg(seen.frame);
         hearLoco(seen.frame, packet);
         if (hasBoard) dccHearBoard(board, seen.frame, packet);
     }
-    if (!state.service.in_service || !timer.isOver()) return;
+    if (!state.service.in_service || timer.age() <= 20) return;
     dcc_decoder_end_service(&state); /* the locomotive has stopped since the reset, so no value changes */
     notifyServiceMode(false);
 }
@@ -76,8 +80,10 @@ void DccDecoder::hearLoco(const dcc_frame &frame, const dcc_packet &packet) {
     if (wasInService != state.service.in_service) notifyServiceMode(state.service.in_service);
     if (state.service.in_service) timer.restart();
     if (answer.acknowledged) notifyCVAck();
-    if (packet.kind == DCC_RESET) dcc_loco_hears(&state.loco, frame.bytes, frame.len, &isForLoco);
-    if (isForLoco) notifyDccReset();
+    dcc_loco_hears(&state.loco, frame.bytes, frame.len, &isForLoco);
+    if (isForLoco && packet.kind == DCC_RESET) notifyDccReset();
+    const bool isHeard = state.service.in_service || isForLoco;
+    if (isHeard && factory.isSecond(frame, packet, state.service.in_service)) notifyCVResetFactoryDefault();
     DccLocoValues(state.loco).notifyChanges(before);
     if (answer.changed != 0) notifyCVChange(answer.changed, state.loco.cvs[answer.changed - 1]);
 }

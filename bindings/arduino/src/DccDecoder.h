@@ -5,7 +5,7 @@
 #define DCC_DECODER_H
 
 #include "DccAccessory.h"
-#include "DccServiceTimer.h"
+#include "DccFactoryReset.h"
 
 class DccDecoder {
 public:
@@ -19,18 +19,21 @@ public:
     void powerUp(uint32_t now, uint16_t boardNumber = NO_BOARD);
 
     /* Keeps the locomotive on the main track if mainOnly is true. Otherwise the locomotive can hear both tracks. On the
-     * main track, packets for the short addresses 112 to 127 look like packets of service mode (dcc.h). If the
+     * main track, packets for the short addresses 116 to 127 look like packets of service mode (dcc.h). If the
      * locomotive is in service mode, service mode ends first. */
     void setMainOnly(bool mainOnly);
 
     /* Call one of them in an interrupt: at the end of each half-bit, or at each change of the pin with micros(). */
-    void halfBit(uint16_t us) { track.halfBit(us); }
-    void edge(uint32_t now) { track.edge(now); }
+    DCC_IN_RAM void halfBit(uint16_t us) { track.halfBit(us); }
+    DCC_IN_RAM void edge(uint32_t now) { track.edge(now); }
 
     /* Call it in loop(). Applies the packets that were found, and calls the callbacks. Ends service mode if no packet
      * of service mode came for 20 milliseconds. If a CV changed in service mode, the locomotive powers up when service
      * mode ends. */
     void process();
+
+    /* Returns the milliseconds since the last packet of the track, or since begin (DccAccessory.h). */
+    uint32_t packetAge() const { return packets.age(); }
 
     /* The state of the decoders (dcc.h). Of the fields of state, the sketch may write only state.loco.cvs. */
     dcc_decoder state;
@@ -40,7 +43,8 @@ private:
     void listen(uint32_t now, uint16_t boardNumber);
     void hearLoco(const dcc_frame &frame, const dcc_packet &packet);
     DccTrack track;
-    DccServiceTimer timer;
+    DccPacketTimer timer, packets;
+    DccFactoryReset factory;
     bool hasBoard;
 };
 
@@ -59,6 +63,10 @@ void notifyDccState(uint8_t state, bool on);
 
 /* A packet of either track changed a CV of a DccDecoder. Write the CV into permanent memory here. */
 void notifyCVChange(uint16_t cv, uint8_t value);
+
+/* A second packet in a row wrote 8 to CV8, on the main track or in direct mode on the programming track: the station
+ * asks for the first values of all CVs. CV8 keeps its value, and the decoder does not acknowledge the packet. */
+void notifyCVResetFactoryDefault();
 
 /* A reset packet came. */
 void notifyDccReset();

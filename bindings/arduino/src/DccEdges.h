@@ -4,17 +4,22 @@
  *
  * On a board with an AVR a timer measures each half-bit to half a microsecond, even if another interrupt delays the
  * call of onHalfBit. The signal comes to DCC_EDGE_PIN: pin 8 of an Uno or Nano, pin 49 of a Mega, pin 4 of a
- * Leonardo. On any other board the signal comes to pin 2, each edge calls an interrupt, and micros() measures. */
+ * Leonardo. On any other board the signal comes to pin 2, each edge calls an interrupt, and micros() measures.
+ *
+ * For boards that are made for NmraDcc, a sketch for an AVR can define DCC_EDGES_ON_PIN_2 before it includes this file.
+ * Then the signal comes to pin 2, each edge calls an interrupt, and micros() measures, so all timers are free. */
 #ifndef DCC_EDGES_H
 #define DCC_EDGES_H
 
 #include <Arduino.h>
 
+#include "DccInRam.h"
+
 /* The sketch defines it. An interrupt calls it at the end of each half-bit with its duration in microseconds, at most
  * 65535. */
-void onHalfBit(uint16_t us);
+DCC_IN_RAM void onHalfBit(uint16_t us);
 
-#ifdef __AVR__
+#if defined(__AVR__) && !defined(DCC_EDGES_ON_PIN_2)
 
 #if defined(__AVR_ATmega1280__) || defined(__AVR_ATmega2560__)
 enum { DCC_EDGE_PIN = 49 };
@@ -25,9 +30,13 @@ enum { DCC_EDGE_PIN = 49 };
 #define DCC_EDGE_MODE TCCR4A
 #define DCC_EDGE_CAPTURED TIMER4_CAPT_vect
 #define DCC_EDGE_OVERFLOWN TIMER4_OVF_vect
+#elif !defined(TIMER1_CAPT_vect) || defined(__AVR_ATtiny84__) || F_CPU != 16000000L
+#error "DccEdges.h knows no timer of this chip at this frequency. Define DCC_EDGES_ON_PIN_2 and use pin 2."
 #else
 #ifdef __AVR_ATmega32U4__
 enum { DCC_EDGE_PIN = 4 };
+#elif defined(__AVR_ATmega1284P__) || defined(__AVR_ATmega1284__) || defined(__AVR_ATmega644P__)
+enum { DCC_EDGE_PIN = 14 }; /* PD6, as MightyCore counts the pins */
 #else
 enum { DCC_EDGE_PIN = 8 };
 #endif
@@ -89,10 +98,24 @@ enum { DCC_EDGE_PIN = 2 };
 
 static uint32_t dccLastEdge;
 
-static void dccOnEdge() {
+#ifdef __AVR__
+/* micros() of an AVR has steps of 4 microseconds, and another interrupt delays the call, for example that of a byte of
+ * the serial port by 7 microseconds. So a duration that no half-bit has counts as the nearest one of a half-bit, if the
+ * two differ by at most 12 microseconds. */
+static uint16_t dccNearest(uint16_t us) {
+    if (us >= 40 && us < 52) return 52;
+    if (us > 64 && us <= 76) return 64;
+    if (us > 76 && us < 90) return 90;
+    return us;
+}
+#else
+static DCC_IN_RAM uint16_t dccNearest(uint16_t us) { return us; }
+#endif
+
+static DCC_IN_RAM void dccOnEdge() {
     uint32_t now = micros(), us = now - dccLastEdge;
     dccLastEdge = now;
-    onHalfBit(us > 65535 ? 65535 : (uint16_t)us);
+    onHalfBit(dccNearest(us > 65535 ? 65535 : (uint16_t)us));
 }
 
 /* Begins to measure. */

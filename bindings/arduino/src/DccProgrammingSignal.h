@@ -11,9 +11,11 @@
 
 #include <Arduino.h>
 
+#include "DccInRam.h"
+
 /* The sketch defines it. An interrupt calls it for each half-bit. It returns the duration in microseconds, or 0 if the
  * track has no power. The interrupt then calls it again after a millisecond. */
-uint16_t nextProgrammingHalfBit();
+DCC_IN_RAM uint16_t nextProgrammingHalfBit();
 
 enum { DCC_WITHOUT_POWER = 1000 };
 
@@ -22,14 +24,19 @@ enum { DCC_WITHOUT_POWER = 1000 };
 enum { DCC_PROGRAMMING_PIN = 6 };
 
 /* Bit 6 of TCCR4A turns the pin at the comparison. Bit 1 of TCCR4B is the clock divided by 8, so the timer counts half
- * microseconds. Without power the pin is low. */
+ * microseconds. Without power the pin is low. If the time of the next turn has passed, the pin turns after 4 more
+ * microseconds, and not after a round of the timer. */
 inline void dccTurnProgramming() {
     uint16_t us = nextProgrammingHalfBit();
     TCCR4A = us > 0 ? 1 << COM4A0 : 0;
+    noInterrupts();
     OCR4A += 2 * (us > 0 ? us : (uint16_t)DCC_WITHOUT_POWER);
+    if ((int16_t)(OCR4A - TCNT4) < 8) OCR4A = TCNT4 + 8;
+    interrupts();
 }
 
-ISR(TIMER4_COMPA_vect) { dccTurnProgramming(); }
+/* The interrupt of the main track can interrupt this one, so the main track keeps its time. */
+ISR(TIMER4_COMPA_vect, ISR_NOBLOCK) { dccTurnProgramming(); }
 
 /* Begins to send. */
 inline void beginProgrammingSignal() {
@@ -48,7 +55,7 @@ inline void beginProgrammingSignal() {
 enum { DCC_PROGRAMMING_PIN = 6 };
 
 /* Changes the level of the track, and returns the microseconds until the next change. */
-uint16_t turnProgramming() {
+DCC_IN_RAM uint16_t turnProgramming() {
     static bool level;
     uint16_t us = nextProgrammingHalfBit();
     level = us > 0 && !level;

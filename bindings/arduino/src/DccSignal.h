@@ -11,8 +11,10 @@
 
 #include <Arduino.h>
 
+#include "DccInRam.h"
+
 /* The sketch defines it. An interrupt calls it for each half-bit. It returns the duration in microseconds. */
-uint16_t nextHalfBit();
+DCC_IN_RAM uint16_t nextHalfBit();
 
 #ifdef __AVR__
 
@@ -25,8 +27,14 @@ enum { DCC_SIGNAL_PIN = 46 };
 #define DCC_SIGNAL_FLAGS TIFR5
 #define DCC_SIGNAL_MASK TIMSK5
 #define DCC_SIGNAL_TURNED TIMER5_COMPA_vect
+#elif !defined(TIMER1_COMPA_vect) || defined(__AVR_ATtiny84__) || defined(__AVR_ATtiny85__) || F_CPU != 16000000L
+#error "DccSignal.h knows no timer of this chip at this frequency."
+#else
+#if defined(__AVR_ATmega1284P__) || defined(__AVR_ATmega1284__) || defined(__AVR_ATmega644P__)
+enum { DCC_SIGNAL_PIN = 13 }; /* PD5, as MightyCore counts the pins */
 #else
 enum { DCC_SIGNAL_PIN = 9 };
+#endif
 #define DCC_SIGNAL_MODE TCCR1A
 #define DCC_SIGNAL_CONTROL TCCR1B
 #define DCC_SIGNAL_COUNT TCNT1
@@ -59,7 +67,7 @@ inline void beginSignal() {
 enum { DCC_SIGNAL_PIN = 5 };
 
 /* Changes the level of the track, and returns the microseconds until the next change. */
-uint16_t turn() {
+DCC_IN_RAM uint16_t turn() {
     static bool level;
     level = !level;
     digitalWrite(DCC_SIGNAL_PIN, level ? HIGH : LOW);

@@ -9,6 +9,7 @@ void DccSmallDecoder::begin(uint32_t now) {
     dcc_small_service_new(&service);
     powerUp();
     track.begin(now);
+    packets.restart();
 }
 
 void DccSmallDecoder::powerUp() {
@@ -22,7 +23,9 @@ void DccSmallDecoder::process() {
     dcc_packet packet;
     while (track.next(&half, &seen)) {
         if (seen.refusal != 0 || dcc_read(seen.frame.bytes, seen.frame.len, &packet) != 0) continue;
-        hearService(seen.frame);
+        packets.restart();
+        notifyDccMsg(seen.frame);
+        hearService(seen.frame, packet);
         bool isReset = packet.kind == DCC_RESET && packet.to == DCC_ALL;
         if (service.in_service && !isReset) continue;
         if (!service.in_service && isProgrammed) {
@@ -32,14 +35,14 @@ void DccSmallDecoder::process() {
         }
         hearLoco(seen.frame, packet);
     }
-    if (!service.in_service || !timer.isOver()) return;
+    if (!service.in_service || timer.age() <= 20) return;
     dcc_small_service_new(&service);
     notifyServiceMode(false);
     if (isProgrammed) powerUp(); /* the locomotive has stopped since the reset, so no value changes */
 }
 
 /* Takes a frame of the programming track. dcc_small_service_cv writes the number of the accessed CV, or 0. */
-void DccSmallDecoder::hearService(const dcc_frame &frame) {
+void DccSmallDecoder::hearService(const dcc_frame &frame, const dcc_packet &packet) {
     uint16_t cv;
     bool isChanged, isAcknowledged, wasInService = service.in_service;
     if (dcc_small_service_cv(&service, frame.bytes, frame.len, &cv) != 0) return;
@@ -48,9 +51,18 @@ void DccSmallDecoder::hearService(const dcc_frame &frame) {
     if (wasInService != service.in_service) notifyServiceMode(service.in_service);
     if (service.in_service) timer.restart();
     if (isAcknowledged) notifyCVAck();
+    if (service.in_service) hearFactoryReset(frame, packet);
     if (!isChanged) return;
     isProgrammed = true;
     notifyCVWrite(cv, value);
+}
+
+/* The callback can change any CV, so the locomotive powers up after it: when service mode ends, or at the next packet
+ * of the main track. */
+void DccSmallDecoder::hearFactoryReset(const dcc_frame &frame, const dcc_packet &packet) {
+    if (!factory.isSecond(frame, packet, service.in_service)) return;
+    isProgrammed = true;
+    notifyCVResetFactoryDefault();
 }
 
 /* Applies a packet of the main track. dcc_small_loco_cv writes the number of the CV that the packet writes, or 0. */
@@ -63,6 +75,7 @@ void DccSmallDecoder::hearLoco(const dcc_frame &frame, const dcc_packet &packet)
     DccLocoValues before(loco);
     if (dcc_small_loco_apply(&loco, frame.bytes, frame.len, &value, &isChanged) != 0) return;
     if (packet.kind == DCC_RESET) notifyDccReset();
+    if (!service.in_service) hearFactoryReset(frame, packet);
     DccLocoValues(loco).notifyChanges(before);
     if (isChanged) notifyCVWrite(cv, value);
 }

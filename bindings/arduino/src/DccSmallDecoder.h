@@ -12,13 +12,16 @@ public:
     void begin(uint32_t now);
 
     /* Call one of them in an interrupt: at the end of each half-bit, or at each change of the pin with micros(). */
-    void halfBit(uint16_t us) { track.halfBit(us); }
-    void edge(uint32_t now) { track.edge(now); }
+    DCC_IN_RAM void halfBit(uint16_t us) { track.halfBit(us); }
+    DCC_IN_RAM void edge(uint32_t now) { track.edge(now); }
 
     /* Call it in loop(). Applies the packets that were found, and calls the callbacks. In service mode, the locomotive
      * hears only the reset. Ends service mode if no packet of service mode came for 20 milliseconds. If a CV changed in
      * service mode, the locomotive powers up when service mode ends. */
     void process();
+
+    /* Returns the milliseconds since the last packet of the track, or since begin (DccAccessory.h). */
+    uint32_t packetAge() const { return packets.age(); }
 
     /* The state of the decoders (dcc.h). */
     dcc_small_loco loco;
@@ -26,10 +29,12 @@ public:
 
 private:
     void powerUp();
-    void hearService(const dcc_frame &frame);
+    void hearService(const dcc_frame &frame, const dcc_packet &packet);
+    void hearFactoryReset(const dcc_frame &frame, const dcc_packet &packet);
     void hearLoco(const dcc_frame &frame, const dcc_packet &packet);
     DccTrack track;
-    DccServiceTimer timer;
+    DccPacketTimer timer, packets;
+    DccFactoryReset factory;
     bool isProgrammed;
 };
 

@@ -5,6 +5,8 @@
 
 #include <dcc.h>
 
+#include "DccInRam.h"
+
 /* An Uno lists no lost packets. A dcc_lost takes 808 bytes and dcc_lost_push another 800 bytes of stack, which an Uno
  * does not have. `dcc lost` finds the lost packets in the runs. */
 #ifdef __AVR__
@@ -22,10 +24,10 @@ public:
     void begin(uint32_t now);
 
     /* Call it in an interrupt at the end of each half-bit, with its microseconds (DccEdges.h). */
-    void halfBit(uint16_t us);
+    DCC_IN_RAM void halfBit(uint16_t us);
 
     /* Or call it in the interrupt of the pin at each change of the level. now is micros(). */
-    void edge(uint32_t now);
+    DCC_IN_RAM void edge(uint32_t now);
 
     /* Call it in loop(). Writes the next packet, refusal or lost packet as a line of text:
      *

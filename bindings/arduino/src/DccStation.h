@@ -4,6 +4,8 @@
 
 #include <dcc.h>
 
+#include "DccInRam.h"
+
 /* The reason why a command is refused: P1 to P14, C3 or C4 (docs/FORMATS.md). The letter is 0 if it is accepted. */
 struct DccRefusal {
     char letter;
@@ -28,7 +30,7 @@ public:
     /* Call it in the interrupt of the timer that changes the level of the track (DccSignal.h). Returns the duration of
      * the next half-bit in microseconds. If loop() is late, the station sends an idle packet, so the track always has
      * a signal. */
-    uint16_t half();
+    DCC_IN_RAM uint16_t half();
 
 private:
     dcc_station station;

@@ -4,6 +4,8 @@
 
 #include <dcc.h>
 
+#include "DccInRam.h"
+
 class DccTrack {
 public:
     enum { LINE = DCC_LINE + 16 };
@@ -12,10 +14,10 @@ public:
     void begin(uint32_t now);
 
     /* Call it in an interrupt at the end of each half-bit, with its microseconds (DccEdges.h). */
-    void halfBit(uint16_t us);
+    DCC_IN_RAM void halfBit(uint16_t us);
 
     /* Or call it in the interrupt of the pin at each change of the level. now is micros(). */
-    void edge(uint32_t now);
+    DCC_IN_RAM void edge(uint32_t now);
 
     /* Call it in loop(). Writes the next packet or refusal that was found, with the number of its last half-bit, from
      * 1. At most four can wait, and further ones are lost. Stations repeat their packets. */

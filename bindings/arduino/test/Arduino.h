@@ -9,18 +9,20 @@ enum { LOW, HIGH };
 enum { INPUT, OUTPUT };
 enum { CHANGE = 1, FALLING, RISING };
 enum { DEC = 10, HEX = 16 };
+enum { A0 = 54 };
 
 uint32_t micros();
 unsigned long millis();
 void pinMode(uint8_t pin, uint8_t mode);
 void digitalWrite(uint8_t pin, uint8_t level);
 int digitalRead(uint8_t pin);
+int analogRead(uint8_t pin);
 void analogWrite(uint8_t pin, int value);
 inline uint8_t digitalPinToInterrupt(uint8_t pin) { return pin; }
 void attachInterrupt(uint8_t interrupt, void (*call)(), int mode);
 inline void delay(unsigned long) {}
-inline void interrupts() {}
-inline void noInterrupts() {}
+void interrupts();
+void noInterrupts();
 
 struct Port {
     void begin(unsigned long) {}
@@ -33,8 +35,11 @@ struct Port {
     void println() { print("\n"); }
     int available();
     int read();
+    int availableForWrite();
+    void write(char c);
 };
-extern Port Serial;
+using HardwareSerial = Port;
+extern Port Serial, Serial1;
 
 void setup();
 void loop();

@@ -13,7 +13,16 @@ static int edges;
 static bool isOutput[256];
 static uint8_t level;
 
-uint32_t micros() { return now; }
+/* True if the sketch has switched interrupts off, or if an interrupt runs. */
+static bool areOff;
+void interrupts() { areOff = false; }
+void noInterrupts() { areOff = true; }
+
+/* The sketches take the time to begin anew. An interrupt between the time and the begin would spoil what it begins. */
+uint32_t micros() {
+    if (edge && !areOff) show("# the time, while an interrupt may come\n");
+    return now;
+}
 unsigned long millis() { return now / 1000; }
 void pinMode(uint8_t pin, uint8_t mode) { isOutput[pin] = mode == OUTPUT; }
 
@@ -119,13 +128,24 @@ extern "C" void on_edge(uint32_t at) {
     static bool isRising;
     now = at;
     isRising = !isRising;
+    const bool wereOff = areOff;
+    areOff = true;
     if (edge && (edges == CHANGE || isRising == (edges == RISING))) edge();
+    areOff = wereOff;
 }
 #endif
 
+/* With LATE the main loop runs only once in so many interrupts, and to its end after the last. */
+#ifndef LATE
+#define LATE 1
+#endif
+
 int main() {
+    int turns = 0;
     setup();
-    do loop();
-    while (wait_for_interrupt());
+    do {
+        if (turns++ % LATE == 0) loop();
+    } while (wait_for_interrupt());
+    for (; LATE > 1 && turns > 0; turns--) loop();
     return 0;
 }

@@ -3,6 +3,7 @@
  * --station`. */
 #include "DccAccessory.h"
 #include "DccDecoder.h"
+#include "DccProgrammingSignal.h"
 #include "DccSmallDecoder.h"
 #include "DccSniffer.h"
 #include "DccStation.h"
@@ -108,6 +109,52 @@ static void halfBitsDoNotFit() {
     }
 }
 
+/* A half of a lost packet before the begin counts no longer. */
+static void aSnifferIsBegunAnew() {
+    static DccSniffer sniffer;
+    dcc_frame frame;
+    uint16_t halves[DCC_HALVES];
+    char line[DccSniffer::LINE];
+    HOLDS(dcc_frame_of_line("idle", 4, &frame) == 0);
+    const uint32_t count = dcc_halves(frame.bytes, frame.len, DCC_MAIN_TRACK, halves);
+    for (int turn = 0; turn < 4; turn++) {
+        const bool isBegun = turn % 2 == 1;
+        sniffer.begin(now);
+        /* with a preamble of 16 half-bits the packet is lost */
+        for (uint32_t i = 12; i < count; i++) {
+            if (isBegun && i == 40) {
+                HOLDS(!sniffer.nextLine(line));
+                sniffer.begin(now);
+            }
+            sniffer.halfBit(halves[i]);
+        }
+        HOLDS(sniffer.nextLine(line) == !isBegun);
+        if (!isBegun) HOLDS(!strcmp(line, "72 lost idle: preamble 16"));
+    }
+}
+
+/* The programming track of a board without an AVR: half-bits turn the pin. Without power the pin is low, and the timer
+ * asks again after a millisecond. */
+static const uint16_t *nextHalf;
+static int levelOfPin = -1, modeOfPin = -1;
+static uint16_t firstHalf;
+uint16_t nextProgrammingHalfBit() { return *nextHalf++; }
+void pinMode(uint8_t pin, uint8_t mode) { modeOfPin = pin == DCC_PROGRAMMING_PIN ? mode : -1; }
+void digitalWrite(uint8_t pin, uint8_t level) { levelOfPin = pin == DCC_PROGRAMMING_PIN ? level : -1; }
+void startProgrammingTimer(uint16_t us) { firstHalf = us; }
+
+static void aTrackWithoutPowerIsAskedAgain() {
+    static const uint16_t halves[] = {58, 58, 100, 0, 0, 100, 58, 0};
+    static const struct {
+        uint16_t us;
+        int level;
+    } rows[] = {{58, 0}, {100, 1}, {1000, 0}, {1000, 0}, {100, 1}, {58, 0}, {1000, 0}};
+    nextHalf = halves;
+    beginProgrammingSignal();
+    HOLDS(modeOfPin == OUTPUT && firstHalf == 58 && levelOfPin == 1);
+    for (const auto &row : rows) HOLDS(turnProgramming() == row.us && levelOfPin == row.level);
+}
+
 static void aRunIsLong() {
     static DccSniffer sniffer;
     char word[DccSniffer::RUN];
@@ -184,8 +231,10 @@ static void longHalfBitsAreLong() {
 }
 
 /* The calls of a decoder that are counted here, and the last address of an output. */
-static int resets, turnouts, signals, outputs, outputChanges, acks, begun, ended;
+static int resets, turnouts, signals, outputs, outputChanges, acks, begun, ended, messages, factoryResets;
 static uint16_t lastAddress;
+static dcc_frame lastMessage;
+void notifyDccMsg(const dcc_frame &frame) { messages++, lastMessage = frame; }
 void notifyDccReset() { resets++; }
 void notifyDccAccTurnoutBoard(uint16_t, uint8_t, uint8_t, uint8_t) { turnouts++; }
 void notifyDccAccTurnoutOutput(uint16_t address, uint8_t, uint8_t) { outputs++, lastAddress = address; }
@@ -326,6 +375,119 @@ static void serviceModeEndsAfter20Milliseconds() {
     HOLDS(stored[0] == 5 && decoder.state.loco.cvs[0] == 5);
 }
 
+/* A station asks for the first values. The short address of the store becomes 9. */
+void notifyCVResetFactoryDefault() { factoryResets++, stored[0] = 9; }
+
+/* Each decoder hears of each packet of the track, and of no refusal, and measures the time since the last packet. */
+template <typename T> static void eachPacketIsNotified(T &decoder) {
+    const char *lines[] = {"idle", "loco s77 speed28 f 4", "accessory 300 1 on", "loco s3 functions 0 16",
+                           "frame a00000a0"};
+    clockMs = UINT32_MAX - 1;
+    messages = 0;
+    decoder.process();
+    clockMs = (uint32_t)(clockMs + 700);
+    for (const char *line : lines) {
+        HOLDS(decoder.packetAge() == 700);
+        hear(decoder, line);
+        dcc_frame frame;
+        HOLDS(dcc_frame_of_line(line, strlen(line), &frame) == 0 && lastMessage.len == frame.len &&
+              !memcmp(lastMessage.bytes, frame.bytes, frame.len));
+        HOLDS(decoder.packetAge() == 0);
+        clockMs += 700;
+    }
+    HOLDS(messages == 5);
+    /* a wrong error byte */
+    for (int i = 0; i < 40; i++) decoder.halfBit(58);
+    for (int i = 0; i < 52; i++) decoder.halfBit(100);
+    for (int i = 0; i < 4; i++) decoder.halfBit(58);
+    decoder.process();
+    HOLDS(messages == 5 && decoder.packetAge() == 700);
+}
+
+static void eachDecoderHearsOfEachPacket() {
+    static DccDecoder decoder;
+    static DccSmallDecoder small;
+    static DccAccessory accessory, none;
+    static const uint8_t cvs[DCC_CVS] = {3};
+    clockMs = UINT32_MAX - 1;
+    decoder.begin(cvs, now);
+    eachPacketIsNotified(decoder);
+    memcpy(stored, cvs, sizeof stored);
+    clockMs = UINT32_MAX - 1;
+    small.begin(now);
+    eachPacketIsNotified(small);
+    clockMs = UINT32_MAX - 1;
+    HOLDS(accessory.begin(12, now));
+    eachPacketIsNotified(accessory);
+    /* also a decoder without a board */
+    clockMs = UINT32_MAX - 1;
+    HOLDS(!none.begin(511, now));
+    eachPacketIsNotified(none);
+}
+
+/* The second of two writes of 8 to CV8 in a row asks for the first values. */
+template <typename T> static void factoryResetsOf(T &decoder) {
+    const struct {
+        const char *line;
+        int count;
+    } rows[] = {
+        {"loco s3 cv write 8 8", 0}, {"loco s3 cv write 8 7", 0}, {"loco s3 cv write 8 8", 0},
+        {"loco s4 cv write 8 8", 0}, {"idle", 0}, {"loco s3 cv write 8 8", 1},
+        {"loco s3 cv write 8 8", 1}, {"loco s3 cv write 7 8", 1}, {"loco s3 cv write 7 8", 1},
+        {"loco s3 cv verify 8 8", 1}, {"loco s3 cv verify 8 8", 1}, {"loco s4 cv write 8 8", 1},
+        {"loco s4 cv write 8 8", 1}};
+    factoryResets = acks = 0;
+    for (const auto &row : rows) {
+        hear(decoder, row.line);
+        if (factoryResets != row.count) printf("%d after %s\n", factoryResets, row.line);
+        HOLDS(factoryResets == row.count);
+    }
+    /* in direct mode on the programming track: CV8 := 8, CV8 := 7, CV8 = 8, CV7 := 8 */
+    const struct {
+        const char *line;
+        int count;
+    } direct[] = {{"7c070873", 0}, {"7c07077c", 0}, {"7c070873", 0}, {"7c070873", 1}, {"7c070873", 1}, {"7c070873", 1},
+                  {"7407087b", 1}, {"7407087b", 1}, {"7c060872", 1}, {"7c060872", 1}, {"7c070873", 1}, {"7c070873", 2}};
+    factoryResets = 0;
+    hear(decoder, "loco all reset");
+    HOLDS(isInService(decoder));
+    for (const auto &row : direct) {
+        char line[20];
+        snprintf(line, sizeof line, "frame %s", row.line);
+        hear(decoder, line);
+        if (factoryResets != row.count) printf("%d after %s\n", factoryResets, row.line);
+        HOLDS(factoryResets == row.count);
+    }
+    HOLDS(acks == 0 && isInService(decoder));
+}
+
+static void aStationAsksForTheFirstValues() {
+    static DccDecoder decoder;
+    static DccSmallDecoder small;
+    static const uint8_t cvs[DCC_CVS] = {3, 0, 0, 0, 0, 0, 0, 13};
+    clockMs = 0;
+    decoder.begin(cvs, now);
+    factoryResetsOf(decoder);
+    HOLDS(decoder.state.loco.cvs[7] == 13);
+    memcpy(stored, cvs, sizeof stored);
+    small.begin(now);
+    /* the packet of the second write is the last with the address before */
+    hear(small, "loco s3 cv write 8 8");
+    hear(small, "loco s3 cv write 8 8");
+    HOLDS(addressOf(small) == 3 && stored[0] == 9 && stored[7] == 13);
+    hear(small, "idle");
+    HOLDS(addressOf(small) == 9);
+    stored[0] = 3;
+    small.begin(now);
+    hear(small, "loco all reset");
+    hear(small, "frame 7c070873");
+    hear(small, "frame 7c070873");
+    HOLDS(addressOf(small) == 3 && stored[0] == 9);
+    clockMs += 21;
+    small.process();
+    HOLDS(addressOf(small) == 9 && stored[7] == 13);
+}
+
 /* CVs in their place are those of the decoder. */
 static void aDecoderPowersUpWithItsCvs() {
     static DccDecoder decoder;
@@ -386,6 +548,7 @@ static void aStationIsMadeWithinItsLimits() {
     HOLDS(isRefused(station.command("loco s3 speed28 f 32"), 'P', 8) && isRefused(station.command(""), 'P', 10));
     HOLDS(isRefused(station.command("idle"), 'C', 3));
     HOLDS(isRefused(station.command("loco s3 speed28 f 4"), 0, 0));
+    HOLDS(isRefused(station.command("loco s4 reset                              x"), 'P', 10));
     /* the bytes that are counted are the line */
     HOLDS(isRefused(station.command("loco s4 reset\0", 14), 'P', 10));
     HOLDS(isRefused(station.command("loco s3 speed28 f 4\n", 20), 'P', 11));
@@ -548,6 +711,8 @@ int main(int argc, char **) {
     fourPacketsWait();
     aLineHasRoom();
     halfBitsDoNotFit();
+    aSnifferIsBegunAnew();
+    aTrackWithoutPowerIsAskedAgain();
     aRunIsLong();
     aLostPacketHasRoom();
     aTrackIsBegunAnew();
@@ -555,6 +720,8 @@ int main(int argc, char **) {
     aBoardIsOneOf0To510();
     anOutputChangesOnce();
     serviceModeEndsAfter20Milliseconds();
+    eachDecoderHearsOfEachPacket();
+    aStationAsksForTheFirstValues();
     aDecoderPowersUpWithItsCvs();
     aDecoderStaysOnTheMainTrack();
     anAccessoryDecoderIsOneOf0To510();

@@ -2,8 +2,10 @@
 // with wrong half-bits. The program is that of a release or of this repository, or the one that DCC_PROGRAM names.
 import assert from 'node:assert/strict';
 import { spawnSync } from 'node:child_process';
-import { existsSync, readFileSync } from 'node:fs';
-import { fileURLToPath } from 'node:url';
+import { copyFileSync, existsSync, mkdirSync, mkdtempSync, readFileSync, rmSync, writeFileSync } from 'node:fs';
+import { tmpdir } from 'node:os';
+import { join } from 'node:path';
+import { fileURLToPath, pathToFileURL } from 'node:url';
 import test from 'node:test';
 import * as dcc from '../dcc.mjs';
 
@@ -133,6 +135,19 @@ test('the fields of packets are those of their lines', () => {
   assert.equal(kinds.size, 13, [...kinds].join());
 });
 
+test('plain words are those of the table', () => {
+  const table = readFileSync(`${top}examples/plain.txt`, 'latin1').split('\n').filter((it) => it && it[0] !== '#');
+  for (const [packet, words] of table.map((it) => it.split(' | '))) {
+    assert.equal(dcc.plain(Buffer.from(packet, 'hex')), words);
+  }
+  assert.ok(table.length > 60);
+  assert.throws(() => dcc.plain([3, 3]), { code: 'L1' });
+  assert.throws(() => dcc.plain(new Uint8Array(16)), { code: 'L1' });
+  assert.throws(() => dcc.plain(new Uint8Array(100)), { code: 'L1' });
+  assert.throws(() => dcc.plain([3, 0x62, 0x60]), { code: 'L2' });
+  assert.equal(dcc.plain(new Uint8Array(15)), `frame ${'00'.repeat(15)}`);
+});
+
 test('turnouts are those of show', () => {
   const boards = [...Array(511).keys()];
   const outputs = [...boards, 511].flatMap((board) => [...Array(8).keys()].map((output) => [board, output]));
@@ -218,6 +233,7 @@ test('captures are read as show reads them', () => {
     `\r\n${good.replaceAll(' ', '\r')}\r\n`,
     '0000000058*00000028 0*1 70000 4294967354 9999999999*3', ...['65594', '4294967354', '65535'].map((it) =>
       `${good} 58*20 100 ${it} 58`));
+  texts.push('\ufeff58', `\ufeff${good}`, `70*20000 ${good}`, `58 70*4095 ${good} 70*8192 ${good} 70*99999 ${good}`);
   const next = random(5);
   for (let n = 0; n < 100; n += 1) {
     const text = [...good];
@@ -306,7 +322,7 @@ test('lost packets are those of dcc lost', () => {
   assert.deepEqual(found.map((it) => it.at), [72, 142]);
   assert.deepEqual([found[0].at, found[0].frame, found[0].preamble], [72, SPEED, { ones: 16, after: null }]);
   assert.deepEqual([found[0].ones, found[0].zeros], [null, null]);
-  assert.equal(finder.push(58, 0xffffffff).length, 0);
+  assert.equal(finder.push(58, 100_000).length, 0);
   assert.throws(() => finder.push('58'), TypeError);
   assert.throws(() => finder.push(58, 0), RangeError);
 });
@@ -378,6 +394,241 @@ test('a CV is read as readcv reads it', () => {
   refused('S1', () => empty.answer(false));
 });
 
+/** The text that `dcc timing` writes for statistics. */
+const timingText = (found) => {
+  const shown = (number) => (number === null ? 'none' : String(number));
+  const tally = (name) => {
+    const { count, sum, least, most } = found[name];
+    const hundredths = count ? String(Math.floor((100 * (sum % count)) / count)).padStart(2, '0') : '';
+    const mean = count ? `${Math.floor(sum / count)}.${hundredths}` : 'none';
+    assert.equal(found[name].mean, count ? sum / count : null);
+    const said = [`count ${count}`, `least ${shown(least)}`, `most ${shown(most)}`, `mean ${mean}`];
+    return said.map((it) => `${name} ${it}`);
+  };
+  return [
+    `halves ${found.halves}`, `time ${found.time}`, `packets ${found.packets}`,
+    ...Object.entries(found.refused).map(([name, count]) => `refused ${name} ${count}`), `lost ${found.lost}`,
+    `preamble least ${shown(found.preamble)}`, `gap most ${shown(found.gap)}`, ...tally('ones'), 'ones station 55 61',
+    'ones decoder 52 64', ...tally('differences'), 'differences station 3', 'differences decoder 6', ...tally('zeros'),
+    'zeros station 95 9900', 'zeros decoder 90 10000', ...tally('sums'), 'sums station 12000', ...tally('below'),
+    ...tally('between'), ...tally('above'), '',
+  ].join('\n');
+};
+
+test('statistics are those of timing', () => {
+  const example = readFileSync(`${top}examples/main_track.txt`, 'latin1');
+  const next = random(5);
+  const sent = written(['encode'], rows.map((it) => `${it}\n`).join('').repeat(8)).split(/\s+/).filter(Boolean);
+  const noise = sent.map((us) => (next() < 0.01 ? Math.floor(300 * next() ** 3) : Number(us) + Math.floor(8 * next())));
+  noise[5000] = 12000;
+  noise[6000] = 70000;
+  for (const text of ['', '58', example, noise.join(' '), Array(9).fill(sent.join(' ')).join(' ')]) {
+    const all = dcc.durations(text);
+    const wanted = written(['timing'], text);
+    assert.equal(timingText(dcc.timing(all)), wanted);
+    const meter = new dcc.Meter();
+    for (let at = 0; at < all.length; at += 40000) meter.pushMany(all.subarray(at, at + 40000));
+    assert.equal(timingText(meter.statistics()), wanted);
+  }
+  const meter = new dcc.Meter();
+  for (const it of '58*28 100*14 58*4 100*4 58*4 100*6 58*2 100*6 58*4 100*8 58*4'.split(' ')) {
+    meter.push(...it.split('*').map(Number));
+  }
+  meter.push(70000);
+  const found = meter.statistics();
+  assert.deepEqual([found.halves, found.packets, found.time, found.above.most], [85, 1, 6468 + 65535, 65535]);
+  assert.throws(() => meter.push('58'), TypeError);
+  assert.throws(() => meter.push(58, 0), RangeError);
+  assert.throws(() => meter.pushMany([58, -1]), RangeError);
+  assert.deepEqual(meter.statistics(), found);
+});
+
+test('a full meter takes nothing', async () => {
+  const room = mkdtempSync(join(tmpdir(), 'dcc-'));
+  const text = readFileSync(new URL('../dcc.mjs', import.meta.url), 'utf8');
+  const old = 'const calls = instance.exports;';
+  assert.equal(text.split(old).length, 2);
+  // a library whose meters are full after the first call with a list
+  const full = `const calls = { ...instance.exports, dcc_meter_push_run: () => 0, dcc_meter_push_many: (...words) =>
+    (calls.isFull ? 0 : (calls.isFull = instance.exports.dcc_meter_push_many(...words))) };`;
+  writeFileSync(join(room, 'dcc.mjs'), text.replace(old, full));
+  copyFileSync(new URL('../dcc.wasm', import.meta.url), join(room, 'dcc.wasm'));
+  const { Meter } = await import(pathToFileURL(join(room, 'dcc.mjs')));
+  const meter = new Meter();
+  assert.throws(() => meter.push(58), { name: 'RangeError', message: 'a meter takes less than 2^32 half-bits' });
+  assert.throws(() => meter.pushMany(new Uint16Array(40000)), { name: 'RangeError' });
+  assert.equal(meter.statistics().halves, 0);
+  rmSync(room, { recursive: true });
+});
+
+test('packets have their frames', () => {
+  const more = ['loco l1000 cv bitverify 1024 7 1', 'loco s3 cv bitwrite 513 0 0', 'loco all cv verify 2 255',
+    'signal 2047 31', 'accessory 511 7 off', 'loco s3 state 127 on', 'loco s3 functions 9 15', 'loco all reset'];
+  const kinds = new Set();
+  for (const row of [...rows, ...more]) {
+    const packet = dcc.read(dcc.frame(row));
+    kinds.add(packet.kind);
+    if (packet.kind !== 'other') assert.deepEqual(dcc.packetFrame(packet), dcc.frame(row), row);
+  }
+  assert.equal(kinds.size, 13);
+  const speed = { kind: 'speed28', address: 's3', forward: true, bits: 4 };
+  for (const [code, packet] of [
+    ['P10', { kind: 'other' }], ['P10', { kind: 'none' }], ['P10', {}], ['P1', { ...speed, address: 's128' }],
+    ['P2', { ...speed, address: 'l10240' }], ['P10', { ...speed, address: '3' }], ['P10', { ...speed, address: 's' }],
+    ['P11', { ...speed, address: 's70000' }], ['P8', { ...speed, bits: 32 }],
+    ['P10', { kind: 'functions', address: 's3', group: 4, bits: 0 }],
+    ['P9', { kind: 'functions', address: 's3', group: 0, bits: 32 }],
+    ['P14', { kind: 'state', address: 's3', state: 128, on: true }],
+    ['P6', { kind: 'cv write', address: 's3', cv: 1025, value: 0 }],
+    ['P7', { kind: 'cv bitverify', address: 's3', cv: 1, place: 8, one: true }],
+    ['P3', { kind: 'accessory', board: 512, output: 8, on: true }],
+    ['P4', { kind: 'accessory', board: 511, output: 8, on: true }], ['P5', { kind: 'signal', signal: 2048, aspect: 0 }],
+  ]) refused(code, () => dcc.packetFrame(packet));
+  for (const packet of [null, 'idle', { ...speed, forward: 1 }, { ...speed, bits: '4' }, { ...speed, address: 3 }]) {
+    assert.throws(() => dcc.packetFrame(packet), TypeError);
+  }
+  for (const packet of [{ ...speed, bits: 256 }, { kind: 'signal', signal: 65536, aspect: 0 }]) {
+    assert.throws(() => dcc.packetFrame(packet), RangeError);
+  }
+});
+
+test('service packets have their frames', () => {
+  for (const [hex, packet] of [
+    ['7c000a76', { kind: 'write', cv: 1, value: 10 }], ['7503ff89', { kind: 'verify', cv: 260, value: 255 }],
+    ['781cf99d', { kind: 'bitwrite', cv: 29, place: 1, one: true }],
+    ['7bffe763', { kind: 'bitverify', cv: 1024, place: 7, one: false }],
+  ]) {
+    const frame = Uint8Array.from(Buffer.from(hex, 'hex'));
+    assert.deepEqual(dcc.serviceFrame(packet), frame, hex);
+    assert.deepEqual(dcc.readService(frame), packet, hex);
+  }
+  for (const it of [IDLE, SPEED, [0, 0, 0]]) assert.equal(dcc.readService(it), null);
+  const bit = { kind: 'bitwrite', cv: 1, place: 8, one: true };
+  for (const [code, call] of [
+    ['L1', () => dcc.readService([1, 1])], ['L2', () => dcc.readService([1, 2, 4])],
+    ['P10', () => dcc.serviceFrame({ kind: 'cv write' })], ['P6', () => dcc.serviceFrame({ ...bit, cv: 1025 })],
+    ['P7', () => dcc.serviceFrame(bit)], ['P6', () => dcc.serviceFrame({ kind: 'verify', cv: 0, value: 1 })],
+  ]) refused(code, call);
+  for (const it of [null, { ...bit, one: 1 }, { ...bit, place: '1' }]) {
+    assert.throws(() => dcc.serviceFrame(it), TypeError);
+  }
+  assert.throws(() => dcc.serviceFrame({ kind: 'write', cv: 1, value: 256 }), RangeError);
+  const frames = dcc.questionFrames(SPEED);
+  assert.deepEqual(frames, [...Array(3).fill(new Uint8Array(3)), ...Array(5).fill(SPEED)]);
+  frames[3][0] = 9;
+  assert.deepEqual([frames[4], SPEED[0]], [SPEED, 3]);
+});
+
+test('decoders on both tracks have registers', () => {
+  const locos = [{ 1: 3, 29: 2 }, { 17: 0xc3, 18: 0xe8, 29: 0x22 }, { 1: 3, 29: 0 }, {}];
+  const boards = [12, 0, 510].map((it) => [it, { 1: it & 63, 9: it >> 6 }]);
+  const pairs = [...locos.map((it) => [new dcc.Loco(it), new dcc.TrackLoco(it)]),
+    ...boards.map(([number, cvs]) => [new dcc.Board(number), new dcc.TrackBoard(cvs)])];
+  for (const [plain, both] of pairs) {
+    both.setMainOnly(true);
+    for (const row of rows) {
+      plain.apply(dcc.frame(row));
+      both.hear(dcc.frame(row));
+      assert.equal(String(both), String(plain), row);
+    }
+  }
+  for (const decoder of [new dcc.TrackLoco({ 1: 5, 29: 2 }), new dcc.TrackBoard({ 1: 5 })]) {
+    const number = () => String(decoder.address ?? decoder.number).replace('s', '');
+    const write = dcc.serviceFrame({ kind: 'write', cv: 1, value: 10 });
+    const hear = (...frames) => frames.map((it) => decoder.hear(it));
+    const no = { acknowledged: false, changed: null };
+    assert.deepEqual(hear([0, 0, 0], write), [no, no]);
+    assert.equal(decoder.isInService, true);
+    assert.deepEqual(hear(write), [{ acknowledged: true, changed: 1 }]);
+    assert.deepEqual([number(), decoder.cvs[0], decoder.cvs.length], ['5', 10, 1024]);
+    decoder.endService();
+    assert.deepEqual([number(), decoder.isInService], ['10', false]);
+    decoder.hear([0, 0, 0]);
+    decoder.setMainOnly(true);
+    assert.equal(decoder.isInService, false);
+    assert.deepEqual(hear([0, 0, 0], write, write), [no, no, no]);
+    decoder.setMainOnly(false);
+    assert.deepEqual(hear([0, 0, 0], write, write), [no, no, { acknowledged: true, changed: null }]);
+    refused('L1', () => decoder.hear([1, 1]));
+    refused('L2', () => decoder.hear([1, 2, 4]));
+    assert.throws(() => decoder.setMainOnly(1), TypeError);
+    assert.equal(decoder.isInService, true);
+  }
+  const [loco, speed] = [new dcc.TrackLoco({ 1: 3, 29: 2 }), { step: 1, steps: 28 }];
+  assert.deepEqual([loco.hear(SPEED).changed, loco.speed, loco.isForward], [null, speed, true]);
+  const change = dcc.frame('loco s3 cv write 3 7');
+  assert.deepEqual([loco.hear(change), loco.pending], [{ acknowledged: false, changed: null }, change]);
+  assert.equal(loco.hear(change).changed, 3);
+});
+
+test('a CV is written by two questions', () => {
+  for (const [cv, value, wanted] of [[1, 10, true], [1024, 255, true], [8, 9, false]]) {
+    const [service, writer] = [new dcc.Service({ 8: 13 }), new dcc.Writer(cv, value)];
+    const ask = () => dcc.questionFrames(writer.question()).map((it) => service.apply(it)).some(Boolean);
+    assert.deepEqual(dcc.readService(writer.question()), { kind: 'write', cv, value });
+    assert.equal(writer.answer(ask()), null);
+    assert.deepEqual(dcc.readService(writer.question()), { kind: 'verify', cv, value });
+    assert.equal(writer.answer(ask()), wanted);
+    assert.equal(service.cvs[cv - 1], wanted ? value : 13);
+  }
+  const writer = new dcc.Writer(1, 10);
+  assert.deepEqual([writer.answer(false), writer.answer(false), writer.answer(true)], [null, false, true]);
+  refused('P6', () => new dcc.Writer(0, 1));
+  refused('P6', () => new dcc.Writer(1025, 1));
+  for (const call of [() => new dcc.Writer(1, '1'), () => writer.answer(1)]) assert.throws(call, TypeError);
+  assert.throws(() => new dcc.Writer(1, 256), RangeError);
+});
+
+test('one function is turned', () => {
+  const [loco, functions] = [new dcc.Loco({ 1: 3, 29: 2 }), new dcc.Functions()];
+  assert.deepEqual(functions.on, []);
+  for (const [number, on, text] of [
+    [0, true, '0 16'], [4, true, '0 24'], [0, false, '0 8'], [5, true, '5 1'], [12, true, '9 8'], [13, true, '13 1'],
+    [20, true, '13 129'], [28, true, '21 128'], [36, true, '29 128'], [61, true, '61 1'], [68, true, '61 129'],
+  ]) {
+    const frame = functions.turn('s3', number, on);
+    assert.equal(dcc.line(frame), `loco s3 functions ${text}`);
+    assert.equal(functions.isOn(number), on);
+    loco.apply(frame);
+    assert.deepEqual(loco.functions, functions.on);
+  }
+  assert.equal(dcc.line(functions.turn('all', 1, true)), 'loco all functions 0 9');
+  assert.equal(dcc.line(functions.turn('l1000', 1, false)), 'loco l1000 functions 0 8');
+  const before = functions.on;
+  for (const [code, address, number] of [['P13', 's3', 69], ['P1', 's0', 1], ['P2', 'l10240', 1], ['P10', 'x', 1]]) {
+    refused(code, () => functions.turn(address, number, true));
+  }
+  assert.deepEqual([functions.on, functions.isOn(69), functions.isOn(255)], [before, false, false]);
+  for (const call of [() => functions.turn('s3', 1, 1), () => functions.turn(3, 1, true), () => functions.isOn('1')]) {
+    assert.throws(call, TypeError);
+  }
+  assert.throws(() => functions.isOn(256), RangeError);
+});
+
+test('a station stops and forgets', () => {
+  const station = new dcc.Station({ queue: 8, slots: 8, repeats: 2 });
+  const lines = (count) => Array.from({ length: count }, () => dcc.line(station.next()));
+  for (const it of ['loco s3 speed28 f 20', 'loco s3 functions 0 16', 'loco l3 speed28 f 4']) {
+    station.command(dcc.frame(it));
+  }
+  assert.deepEqual([station.stop(), station.waiting], [2, 1]);
+  assert.deepEqual(lines(4), [...Array(2).fill('loco all speed28 f 3'), ...Array(2).fill('loco s3 functions 0 16')]);
+  station.command(dcc.frame('loco l3 functions 0 1'));
+  lines(2);
+  assert.deepEqual([station.waiting, station.entries, station.stop()], [0, 2, 0]);
+  lines(2);
+  for (const [code, address] of [['P1', 's0'], ['P2', 'l10240'], ['P10', '3'], ['P11', 's99999']]) {
+    refused(code, () => station.forget(address));
+  }
+  assert.throws(() => station.forget(3), TypeError);
+  for (const it of ['all', 's4']) station.forget(it);
+  assert.equal(station.entries, 2);
+  station.forget('s3');
+  assert.deepEqual([station.entries, lines(1)], [1, ['loco l3 functions 0 1']]);
+  station.forget('l3');
+  assert.deepEqual([station.entries, lines(1)], [0, ['idle']]);
+});
+
 test('errors have their codes', () => {
   for (const [code, call] of [
     ['P1', () => dcc.frame('loco s128 reset')], ['P10', () => dcc.frame('')], ['P10', () => dcc.frame('idle\0')],
@@ -442,4 +693,154 @@ test('objects do not share their state', () => {
   const first = dcc.frame('idle');
   dcc.frame('loco s3 reset');
   assert.deepEqual(first, IDLE);
+});
+
+test('a page of a server loads the module', () => {
+  const script = `
+    import { readFileSync } from 'node:fs';
+    import { createServer } from 'node:http';
+    import vm from 'node:vm';
+    const folder = process.env.DCC_FOLDER;
+    const server = createServer(({ url }, answer) => answer.end(readFileSync(folder + url)));
+    server.listen(0, '127.0.0.1', async () => {
+      const url = 'http://127.0.0.1:' + server.address().port + '/dcc.mjs';
+      const module = new vm.SourceTextModule(readFileSync(folder + '/dcc.mjs', 'utf8'), {
+        identifier: url,
+        initializeImportMeta: (meta) => Object.assign(meta, { url }),
+        importModuleDynamically: (name) => { throw new Error('a browser has no ' + name); },
+      });
+      await module.link((name) => { throw new Error('a browser has no ' + name); });
+      await module.evaluate();
+      console.log(module.namespace.line(Uint8Array.of(3, 0x62, 0x61)));
+      server.close();
+    });`;
+  const env = { ...process.env, DCC_FOLDER: fileURLToPath(new URL('../', import.meta.url)) };
+  const words = ['--no-warnings', '--experimental-vm-modules', '--input-type=module', '-e', script];
+  const { stdout, stderr } = spawnSync(process.execPath, words, { env });
+  assert.deepEqual([stdout.toString(), stderr.toString()], ['loco s3 speed28 f 4\n', '']);
+});
+
+/** What the script that makes dcc.wasm writes and ends with. */
+const make = (words, more = {}) => {
+  const env = { ...process.env, ...more };
+  const ran = spawnSync(fileURLToPath(new URL('../make', import.meta.url)), words, { env });
+  return { error: ran.stderr.toString(), status: ran.status };
+};
+const lacking = [process.env.CLANG ?? 'clang', 'wasm-ld'].find((it) => spawnSync(it, ['--version']).status !== 0);
+const skip = lacking && `there is no ${lacking}`;
+const oneFile = [`${top}c/dcc.c`, `${top}crates/dcc_c/out/c/dcc.c`].find((it) => existsSync(it));
+
+test('make compiles the one C file', { skip }, async () => {
+  const room = mkdtempSync(join(tmpdir(), 'dcc-'));
+  assert.deepEqual(make([oneFile, room]), { error: '', status: 0 });
+  const compiled = new WebAssembly.Module(readFileSync(join(room, 'dcc.wasm')));
+  const functions = [...new Set(readFileSync(`${top}include/dcc.h`, 'utf8').match(/\bdcc_[a-z_]+(?=\()/g))];
+  assert.ok(functions.length >= 63);
+  const names = WebAssembly.Module.exports(compiled).map(({ name }) => name);
+  assert.deepEqual(names.sort(), ['__heap_base', 'memory', ...functions].sort());
+  assert.deepEqual(WebAssembly.Module.imports(compiled), []);
+  copyFileSync(new URL('../dcc.mjs', import.meta.url), join(room, 'dcc.mjs'));
+  const other = await import(pathToFileURL(join(room, 'dcc.mjs')));
+  const [loco, same] = [dcc, other].map((it) => new it.Loco({ 1: 3, 29: 2 }));
+  for (const row of rows) {
+    assert.deepEqual(other.frame(row), dcc.frame(row), row);
+    loco.apply(dcc.frame(row));
+    same.apply(dcc.frame(row));
+    assert.equal(String(same), String(loco), row);
+  }
+  rmSync(room, { recursive: true });
+});
+
+test('make says what it lacks', { skip }, () => {
+  const room = mkdtempSync(join(tmpdir(), 'dcc-'));
+  const wrong = join(room, 'wrong.c');
+  writeFileSync(wrong, '#error wrong\n');
+  for (const [file, more, word] of [
+    [join(room, 'nothing.c'), {}, 'there is no '], [wrong, {}, 'It needs wasm-ld too'],
+    [oneFile, { CLANG: join(room, 'no-clang') }, 'clang makes no module of '],
+  ]) {
+    const { error, status } = make([file, room], more);
+    assert.deepEqual([error.includes(word), status], [true, 1], error);
+  }
+  assert.ok(!existsSync(join(room, 'dcc.wasm')));
+  rmSync(room, { recursive: true });
+});
+
+test('make takes the module of the place', { skip }, () => {
+  const room = mkdtempSync(join(tmpdir(), 'dcc-'));
+  const [folder, out] = [join(room, 'bindings', 'js'), join(room, 'crates', 'dcc_c', 'out', 'wasm32')];
+  for (const it of [folder, join(room, 'c'), join(room, 'include')]) mkdirSync(it, { recursive: true });
+  const module = join(folder, 'dcc.wasm');
+  for (const [from, to] of [
+    [fileURLToPath(new URL('../make', import.meta.url)), join(folder, 'make')],
+    [oneFile, join(room, 'c', 'dcc.c')],
+    [`${top}include/dcc.h`, join(room, 'include', 'dcc.h')],
+  ]) copyFileSync(from, to);
+  const isMade = () => {
+    assert.equal(spawnSync(join(folder, 'make')).status, 0);
+    return WebAssembly.validate(readFileSync(module));
+  };
+  // a release has the module, and no crates
+  writeFileSync(module, 'of a release');
+  assert.equal(isMade(), false);
+  assert.equal(readFileSync(module, 'utf8'), 'of a release');
+  mkdirSync(out, { recursive: true });
+  assert.equal(isMade(), true);
+  writeFileSync(join(out, 'dcc.wasm'), 'of the toolchain');
+  assert.equal(isMade(), false);
+  assert.equal(readFileSync(module, 'utf8'), 'of the toolchain');
+  rmSync(room, { recursive: true });
+});
+
+test('the package has its files', () => {
+  const folder = new URL('../', import.meta.url);
+  const { files, types, exports } = JSON.parse(readFileSync(new URL('package.json', folder), 'utf8'));
+  const wanted = ['LICENSE-APACHE', 'LICENSE-MIT', 'README.md', 'dcc.d.mts', 'dcc.mjs', 'dcc.wasm'];
+  assert.deepEqual([...files].sort(), wanted);
+  for (const it of wanted) assert.ok(existsSync(new URL(it, folder)), it);
+  const named = [types, ...Object.values(exports['.']), exports['./dcc.wasm']].map((it) => it.slice(2));
+  assert.deepEqual([...new Set(named)].sort(), ['dcc.d.mts', 'dcc.mjs', 'dcc.wasm']);
+});
+
+test('the types name what the module has', () => {
+  const types = readFileSync(new URL('../dcc.d.mts', import.meta.url), 'utf8').replace(/\/\*\*[^]*?\*\//g, '');
+  const named = [...types.matchAll(/^export (?:function|class) (\w+)/gm)].map(([, name]) => name);
+  assert.deepEqual(named.sort(), Object.keys(dcc).sort());
+  const objects = {
+    Seen: new dcc.Seen(84, null, SPEED),
+    Lost: new dcc.Lost(72, SPEED, null, null, null),
+    Refused: new dcc.Refused('L1'),
+  };
+  const classes = [...types.matchAll(/^export class (\w+)[^{]*\{([^]*?)^\}/gm)];
+  assert.equal(classes.length, 15);
+  const namesOf = (it) =>
+    (it === Object.prototype ? [] : [...Object.getOwnPropertyNames(it), ...namesOf(Object.getPrototypeOf(it))]);
+  for (const [, name, body] of classes) {
+    const typed = [...body.matchAll(/^  (?:readonly )?(\w+)[(:]/gm)].map(([, it]) => it);
+    const own = objects[name] ? Object.keys(objects[name]).filter((it) => it !== 'name') : [];
+    const inherited = name === 'Refused' ? [] : namesOf(dcc[name].prototype);
+    const members = [...new Set([...inherited, ...own])];
+    const constructed = (it) => it !== 'constructor';
+    assert.deepEqual(typed.filter(constructed).sort(), members.filter(constructed).sort(), name);
+  }
+  const options = (text) => text.split(/[,;]\s*/).map((it) => it.trim().split(/[?: ]/)[0]).filter(Boolean);
+  const taken = (call) => options(/\{([^{}]*)\} = \{\}/.exec(String(call))[1]);
+  assert.deepEqual(options(/interface Timing \{([^}]*)/.exec(types)[1]), taken(dcc.halves));
+  assert.deepEqual(options(/sizes\?: \{([^}]*)/.exec(types)[1]), taken(dcc.Station));
+  const kindsOf = (text) => [...text.matchAll(/'([^']*)'/g)].map(([, it]) => it);
+  const fieldsOf = (type) => {
+    const text = types.slice(types.indexOf(`export type ${type} =`)).split('\nexport function')[0];
+    const packets = [...text.matchAll(/^  \| \{ kind: ([^;}]*)(.*)\}/gm)];
+    return new Map(packets.flatMap(([, kinds, rest]) => kindsOf(kinds).map((it) => [it, options(rest)])));
+  };
+  const [fields, ofService] = [fieldsOf('Packet'), fieldsOf('ServicePacket')];
+  assert.deepEqual([fields.size, ofService.size], [13, 4]);
+  for (const [first, second] of [[0x7c, 10], [0x74, 10], [0x78, 0xf9], [0x78, 0xe9]]) {
+    const { kind, ...packet } = dcc.readService([first, 0, second, first ^ second]);
+    assert.deepEqual(Object.keys(packet), ofService.get(kind), kind);
+  }
+  for (const row of rows) {
+    const { kind, ...packet } = dcc.read(dcc.frame(row));
+    assert.deepEqual(Object.keys(packet).sort(), fields.get(kind).sort(), row);
+  }
 });

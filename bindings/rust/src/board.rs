@@ -13,14 +13,17 @@ pub struct Board {
 }
 
 impl Board {
+    /// A decoder with the number 0, all outputs off, for the library to write.
+    pub(crate) const ZEROED: Board = Board {
+        number: 0,
+        outs: 0,
+        positions: [false; 4],
+        aspects: [0; 4],
+    };
+
     /// Creates a decoder with all outputs off, for a board of 0 to 510. Errors: P3 above 510.
     pub fn new(number: u16) -> Option<Board> {
-        let mut board = Board {
-            number: 0,
-            outs: 0,
-            positions: [false; 4],
-            aspects: [0; 4],
-        };
+        let mut board = Board::ZEROED;
         match unsafe { dcc_board_new(&mut board, number) } {
             0 => Some(board),
             _ => None,

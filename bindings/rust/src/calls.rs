@@ -152,7 +152,6 @@ pub(crate) struct Heard {
 }
 
 extern "C" {
-    pub(crate) fn dcc_framer_new() -> Framer;
     pub(crate) fn dcc_push(framer: *mut Framer, us: u16, outcome: *mut Outcome) -> u8;
     pub(crate) fn dcc_push_run(framer: *mut Framer, us: u16, n: u32, outcome: *mut Outcome) -> u8;
     pub(crate) fn dcc_push_many(
@@ -162,7 +161,6 @@ extern "C" {
         outcome: *mut Outcome,
         taken: *mut u64,
     ) -> u8;
-    pub(crate) fn dcc_lost_new(finder: *mut LostFinder);
     pub(crate) fn dcc_lost_push(finder: *mut LostFinder, us: u16, packet: *mut Lost) -> u8;
     pub(crate) fn dcc_lost_push_run(
         finder: *mut LostFinder,
@@ -177,12 +175,12 @@ extern "C" {
         packet: *mut Lost,
         taken: *mut u64,
     ) -> u8;
-    pub(crate) fn dcc_meter_new(meter: *mut Meter);
     pub(crate) fn dcc_meter_push_run(meter: *mut Meter, us: u16, n: u32) -> u8;
     pub(crate) fn dcc_meter_push_many(meter: *mut Meter, halves: *const u16, len: u64) -> u8;
     pub(crate) fn dcc_meter_read(meter: *const Meter, statistics: *mut Measured);
     pub(crate) fn dcc_read(frame: *const u8, len: u64, packet: *mut Numbers) -> u8;
     pub(crate) fn dcc_line(frame: *const u8, len: u64, line: *mut u8) -> u8;
+    pub(crate) fn dcc_plain(frame: *const u8, len: u64, text: *mut u8) -> u8;
     pub(crate) fn dcc_frame_of_line(line: *const u8, len: u64, frame: *mut Frame) -> u8;
     pub(crate) fn dcc_frame_of_packet(packet: *const Numbers, frame: *mut Frame) -> u8;
     pub(crate) fn dcc_sender_start(

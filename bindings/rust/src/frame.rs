@@ -42,19 +42,29 @@ impl Frame {
     };
 
     /// Returns the frame of these bytes. Errors: L1 or L2.
-    pub fn new(bytes: &[u8]) -> Result<Frame, FrameFault> {
-        match unsafe { dcc_read(bytes.as_ptr(), bytes.len() as u64, &mut Numbers::default()) } {
-            0 => {
-                let mut frame = Frame {
-                    len: bytes.len() as u8,
-                    ..Frame::NONE
-                };
-                frame.bytes[..bytes.len()].copy_from_slice(bytes);
-                Ok(frame)
-            }
-            1 => Err(FrameFault::Length),
-            _ => Err(FrameFault::ErrorByte),
+    ///
+    /// ```
+    /// use dcc::{Frame, FrameFault};
+    ///
+    /// const IDLE: Result<Frame, FrameFault> = Frame::new(&[0xff, 0x00, 0xff]);
+    /// ```
+    pub const fn new(bytes: &[u8]) -> Result<Frame, FrameFault> {
+        if bytes.len() < 3 || bytes.len() > 6 {
+            return Err(FrameFault::Length);
         }
+        let (mut all, mut sum, mut at) = ([0; 6], 0, 0);
+        while at < bytes.len() {
+            all[at] = bytes[at];
+            sum ^= bytes[at];
+            at += 1;
+        }
+        if sum != 0 {
+            return Err(FrameFault::ErrorByte);
+        }
+        Ok(Frame {
+            len: bytes.len() as u8,
+            bytes: all,
+        })
     }
 
     /// Returns the frame that the library wrote, if it wrote one.
@@ -62,9 +72,15 @@ impl Frame {
         (self.len > 0).then_some(self)
     }
 
+    /// Returns the number of bytes that the library wrote, and the bytes with zeros after them.
+    pub(crate) fn written_bytes(&self) -> (u8, [u8; 6]) {
+        (self.len, self.bytes)
+    }
+
     /// Returns its bytes, the error byte last.
     pub fn bytes(&self) -> &[u8] {
-        &self.bytes[..usize::from(self.len)]
+        // (the library writes no len above 6, and so needs no panic)
+        self.bytes.get(..usize::from(self.len)).unwrap_or(&self.bytes)
     }
 
     pub(crate) fn len(&self) -> u64 {

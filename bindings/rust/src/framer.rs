@@ -1,5 +1,5 @@
 //! Packets found in half-bits.
-use crate::calls::{dcc_framer_new, dcc_push, dcc_push_many, dcc_push_run, Outcome};
+use crate::calls::{dcc_push, dcc_push_many, dcc_push_run, Outcome};
 use crate::frame::Frame;
 use core::fmt;
 
@@ -38,9 +38,13 @@ pub enum Refusal {
 }
 
 impl Framer {
-    /// Creates a framer that was given no half-bits.
-    pub fn new() -> Framer {
-        unsafe { dcc_framer_new() }
+    /// Creates a framer that was given no half-bits. (By the header, a framer of zeros is new.)
+    ///
+    /// ```
+    /// static mut FRAMER: dcc::Framer = dcc::Framer::new();
+    /// ```
+    pub const fn new() -> Framer {
+        Framer([0; 3])
     }
 
     /// Takes a half-bit of `us` microseconds. Returns the packet or refusal that it completes.
@@ -85,21 +89,14 @@ impl fmt::Debug for Framer {
 }
 
 fn seen(outcome: Outcome) -> Seen {
-    let bytes = outcome.frame.bytes();
+    let (len, bytes) = outcome.frame.written_bytes();
     Seen::Refused(match outcome.refusal {
         0 => return Seen::Packet(outcome.frame),
         1 => Refusal::BadHalf,
         2 => Refusal::SplitBit,
         3 => Refusal::TooShort,
         4 => Refusal::TooLong,
-        _ => {
-            let mut all = [0; 6];
-            all[..bytes.len()].copy_from_slice(bytes);
-            Refusal::ErrorByte {
-                len: bytes.len() as u8,
-                bytes: all,
-            }
-        }
+        _ => Refusal::ErrorByte { len, bytes },
     })
 }
 

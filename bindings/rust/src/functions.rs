@@ -23,8 +23,8 @@ pub struct Functions {
 
 impl Functions {
     /// Creates the functions of a locomotive, all off.
-    pub fn new() -> Functions {
-        Functions::default()
+    pub const fn new() -> Functions {
+        Functions { on: [0; 2] }
     }
 
     /// Turns a function on or off. Returns the frame to this address that sets the group of the function, with the

@@ -37,6 +37,19 @@ pub enum Speed {
 }
 
 impl Loco {
+    /// A decoder without an address, whose CVs are 0, for the library to write.
+    pub(crate) const ZEROED: Loco = Loco {
+        address_kind: 0,
+        speed_mode: 0,
+        step: 0,
+        forward: false,
+        address: 0,
+        pending: Frame::NONE,
+        functions: [0; 2],
+        states: [0; 2],
+        cvs: [0; 1024],
+    };
+
     /// Creates a decoder that is powered up with these CVs. Its address comes from CV1, CV17, CV18 and CV29.
     pub fn new(cvs: &Cvs) -> Loco {
         let mut loco = MaybeUninit::<Loco>::zeroed();

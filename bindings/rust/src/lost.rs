@@ -1,5 +1,5 @@
 //! Packets that a decoder does not hear.
-use crate::calls::{dcc_lost_new, dcc_lost_push, dcc_lost_push_many, dcc_lost_push_run, Lost};
+use crate::calls::{dcc_lost_push, dcc_lost_push_many, dcc_lost_push_run, Lost};
 use crate::frame::Frame;
 use core::fmt;
 
@@ -45,11 +45,9 @@ pub struct OffLimits {
 }
 
 impl LostFinder {
-    /// Creates a finder that was given no half-bits.
-    pub fn new() -> LostFinder {
-        let mut finder = LostFinder([0; 101]);
-        unsafe { dcc_lost_new(&mut finder) };
-        finder
+    /// Creates a finder that was given no half-bits. (By the header, a finder of zeros is new.)
+    pub const fn new() -> LostFinder {
+        LostFinder([0; 101])
     }
 
     /// Takes a half-bit of `us` microseconds. Returns the packet that is lost at this half-bit.

@@ -1,7 +1,5 @@
 //! The statistics of a track.
-use crate::calls::{
-    dcc_meter_new, dcc_meter_push_many, dcc_meter_push_run, dcc_meter_read, Measured,
-};
+use crate::calls::{dcc_meter_push_many, dcc_meter_push_run, dcc_meter_read, Measured};
 use core::fmt;
 
 /// Computes the statistics of half-bits (NMRA S-9.1, S-9.2). The program writes these statistics with
@@ -71,11 +69,9 @@ pub struct Statistics {
 }
 
 impl Meter {
-    /// Creates a meter that was given no half-bits.
-    pub fn new() -> Meter {
-        let mut meter = Meter([0; 138]);
-        unsafe { dcc_meter_new(&mut meter) };
-        meter
+    /// Creates a meter that was given no half-bits. (By the header, a meter of zeros is new.)
+    pub const fn new() -> Meter {
+        Meter([0; 138])
     }
 
     /// Takes a half-bit of `us` microseconds.

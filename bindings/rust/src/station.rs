@@ -28,14 +28,27 @@ pub enum CommandFault {
 }
 
 impl Station {
+    /// Creates a station that accepts no command and sends idle packets, until [`start`](Station::start) is called.
+    ///
+    /// ```
+    /// static mut STATION: dcc::Station = dcc::Station::zeroed();
+    /// ```
+    pub const fn zeroed() -> Station {
+        Station([0; 1801])
+    }
+
     /// Creates a station without commands. It has at most `queue` waiting commands, 1 to 64, and at most `slots`
     /// entries, 1 to 128. It sends `repeats` copies of a command in a row, 1 to 8. Errors: C1 for other sizes.
     pub fn new(queue: u8, slots: u8, repeats: u8) -> Option<Station> {
-        let mut station = Station([0; 1801]);
-        match unsafe { dcc_station_new(&mut station, queue, slots, repeats) } {
-            0 => Some(station),
-            _ => None,
-        }
+        let mut station = Station::zeroed();
+        station.start(queue, slots, repeats).then_some(station)
+    }
+
+    /// Makes the station one that [`new`](Station::new) creates, and returns true. If new would return `None`, the
+    /// function returns false, and the station does not change.
+    #[must_use]
+    pub fn start(&mut self, queue: u8, slots: u8, repeats: u8) -> bool {
+        unsafe { dcc_station_new(self, queue, slots, repeats) == 0 }
     }
 
     /// Adds a command to the end of the queue.

@@ -28,3 +28,11 @@ pub(crate) struct ServicePart {
     pub in_service: bool,
     pub pending: Frame,
 }
+
+impl ServicePart {
+    /// A decoder that is not in service mode.
+    pub(crate) const ZEROED: ServicePart = ServicePart {
+        in_service: false,
+        pending: Frame::NONE,
+    };
+}

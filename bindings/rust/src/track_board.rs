@@ -7,7 +7,6 @@ use crate::calls::{
 use crate::frame::Frame;
 use crate::track::{Answer, ServicePart};
 use crate::Cvs;
-use core::mem::MaybeUninit;
 
 /// An accessory decoder on the main track and on the programming track (NMRA S-9.2.3). The lower six bits of its
 /// number are in CV1, and the upper three bits in CV9.
@@ -31,14 +30,33 @@ pub struct TrackBoard {
 }
 
 impl TrackBoard {
+    /// Creates a decoder with the number 0 and all outputs off, whose CVs are 0. Call
+    /// [`power_up`](TrackBoard::power_up) before it hears frames.
+    ///
+    /// ```
+    /// static mut DECODER: dcc::TrackBoard = dcc::TrackBoard::zeroed();
+    /// ```
+    pub const fn zeroed() -> TrackBoard {
+        TrackBoard {
+            board: Board::ZEROED,
+            cvs: [0; 1024],
+            service: ServicePart::ZEROED,
+            changed: false,
+            main_only: false,
+        }
+    }
+
     /// Creates a decoder that is powered up with these CVs, is not in service mode and can hear both tracks. All
     /// outputs are off.
     pub fn new(cvs: &Cvs) -> TrackBoard {
-        let mut decoder = MaybeUninit::<TrackBoard>::zeroed();
-        unsafe {
-            dcc_board_decoder_new(decoder.as_mut_ptr(), cvs.as_ptr());
-            decoder.assume_init()
-        }
+        let mut decoder = TrackBoard::zeroed();
+        decoder.power_up(cvs);
+        decoder
+    }
+
+    /// Makes the decoder one that [`new`](TrackBoard::new) creates, without a copy of its 1 KB.
+    pub fn power_up(&mut self, cvs: &Cvs) {
+        unsafe { dcc_board_decoder_new(self, cvs.as_ptr()) }
     }
 
     /// Hears a frame of either track, as [`TrackLoco::hear`](crate::TrackLoco::hear) does. Returns the answer of the

@@ -7,7 +7,6 @@ use crate::loco::{Loco, Speed};
 use crate::packet::Address;
 use crate::track::{Answer, ServicePart};
 use crate::Cvs;
-use core::mem::MaybeUninit;
 
 /// A locomotive decoder on the main track and on the programming track (NMRA S-9.2.3).
 ///
@@ -34,13 +33,31 @@ pub struct TrackLoco {
 }
 
 impl TrackLoco {
+    /// Creates a decoder that has no address, and whose CVs are 0. Call [`power_up`](TrackLoco::power_up)
+    /// before it hears frames.
+    ///
+    /// ```
+    /// static mut DECODER: dcc::TrackLoco = dcc::TrackLoco::zeroed();
+    /// ```
+    pub const fn zeroed() -> TrackLoco {
+        TrackLoco {
+            loco: Loco::ZEROED,
+            service: ServicePart::ZEROED,
+            changed: false,
+            main_only: false,
+        }
+    }
+
     /// Creates a decoder that is powered up with these CVs, is not in service mode and can hear both tracks.
     pub fn new(cvs: &Cvs) -> TrackLoco {
-        let mut decoder = MaybeUninit::<TrackLoco>::zeroed();
-        unsafe {
-            dcc_decoder_new(decoder.as_mut_ptr(), cvs.as_ptr());
-            decoder.assume_init()
-        }
+        let mut decoder = TrackLoco::zeroed();
+        decoder.power_up(cvs);
+        decoder
+    }
+
+    /// Makes the decoder one that [`new`](TrackLoco::new) creates, without a copy of its 1 KB.
+    pub fn power_up(&mut self, cvs: &Cvs) {
+        unsafe { dcc_decoder_new(self, cvs.as_ptr()) }
     }
 
     /// Hears a frame of either track. Returns the answer of the decoder.
@@ -66,7 +83,7 @@ impl TrackLoco {
     /// acknowledges no frame. If the decoder is in service mode, service mode ends first, as
     /// [`end_service`](TrackLoco::end_service) ends it. If `main_only` is false, the decoder can hear both tracks.
     ///
-    /// On the main track, frames for the short addresses 112 to 127 look like service packets. After a reset, two
+    /// On the main track, frames for the short addresses 116 to 127 look like service packets. After a reset, two
     /// copies of the speed packet 7c 3f 85 c6 for address 124 write CV64 of each decoder that can enter service mode.
     pub fn set_main_only(&mut self, main_only: bool) {
         unsafe { dcc_decoder_set_main_only(self, main_only) }

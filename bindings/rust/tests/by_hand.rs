@@ -5,10 +5,12 @@ use common::{cvs, dcc, frame, hex, output, program, rows, Fleet};
 use dcc::{
     question_frames, Address, Board, CommandFault, Frame, FrameFault, Framer, Functions, LineFault,
     Loco, Meter, MeterIsFull, Packet, Reader, Reading, Refusal, Seen, Service, ServicePacket,
-    Speed, Station, Tally, Timing, TimingFault, Turnouts, Writer, Writing,
+    LostFinder, Plain, Speed, Station, Tally, Timing, TimingFault, TrackBoard, TrackLoco, Turnouts, Writer,
+    Writing,
 };
 use std::fmt::Write as _;
-use std::process::Command;
+use std::io::Write as _;
+use std::process::{Command, Stdio};
 
 #[test]
 fn each_register_is_as_run_writes_it() {
@@ -33,6 +35,25 @@ fn each_register_is_as_run_writes_it() {
     ] {
         assert!(reached.contains(&format!("\n{it}\n")), "{it}");
     }
+}
+
+#[test]
+fn plain_words_are_those_of_the_table() {
+    let table = include_str!("../../../examples/plain.txt");
+    let lines: Vec<_> = table.lines().filter(|it| !it.starts_with('#')).collect();
+    for line in &lines {
+        let (packet, words) = line.split_once(" | ").unwrap();
+        let bytes: Vec<_> = (0..packet.len())
+            .step_by(2)
+            .map(|at| u8::from_str_radix(&packet[at..at + 2], 16).unwrap())
+            .collect();
+        let plain = Plain::of(&bytes).unwrap();
+        assert_eq!((plain.as_str(), plain.to_string()), (words, words.to_string()));
+    }
+    assert!(lines.len() > 60);
+    assert_eq!(Plain::of(&[3, 3]), Err(FrameFault::Length));
+    assert_eq!(Plain::of(&[0; 16]), Err(FrameFault::Length));
+    assert_eq!(Plain::of(&[3, 0x62, 0x60]), Err(FrameFault::ErrorByte));
 }
 
 /// Each of these packets changes a decoder that hears it, one that is new or one that was set by the lines before.
@@ -450,6 +471,12 @@ fn a_packet_has_its_frame() {
             },
             5,
         ),
+        (
+            Packet::Reset {
+                to: Address::Short(200),
+            },
+            1,
+        ),
         (Packet::Other(frame("idle")), 12),
     ] {
         assert_eq!(packet.frame(), Err(LineFault(fault)), "{packet:?}");
@@ -653,6 +680,85 @@ fn a_fault_has_its_name() {
     }
 }
 
+const SPEED: Result<Frame, FrameFault> = Frame::new(&[0x03, 0x62, 0x61]);
+static ZEROED: (TrackLoco, TrackBoard, Station) =
+    (TrackLoco::zeroed(), TrackBoard::zeroed(), Station::zeroed());
+static NEW: (Framer, LostFinder, Meter, Functions) =
+    (Framer::new(), LostFinder::new(), Meter::new(), Functions::new());
+
+#[test]
+fn objects_of_constants_are_new() {
+    let speed = frame("loco s3 speed28 f 4");
+    assert_eq!(SPEED, Ok(speed));
+    let (mut framer, mut finder, mut meter, mut functions) = NEW.clone();
+    let mut halves = speed.halves(&Timing::MAIN);
+    let seen: Vec<_> = halves.by_ref().filter_map(|us| framer.push(us)).collect();
+    assert_eq!(seen, [Seen::Packet(speed)]);
+    // a framer that counts from 0 needs 20 half-bits of ones
+    let (mut framer, nineteen) = (NEW.0.clone(), speed.halves(&Timing::MAIN).skip(9));
+    assert_eq!(nineteen.filter_map(|us| framer.push(us)).next(), None);
+    let short: Vec<_> = speed.halves(&Timing::MAIN).skip(12).collect();
+    let lost: Vec<_> = short.iter().filter_map(|us| finder.push(*us)).collect();
+    assert_eq!(lost[0].preamble.map(|it| it.ones), Some(16));
+    assert_eq!((lost.len(), lost[0].frame), (1, speed));
+    meter.push_many(&short).unwrap();
+    let found = meter.statistics();
+    assert_eq!((found.halves, found.packets, found.lost), (72, 0, 1));
+    let turned = functions.turn(Address::Short(3), 5, true).unwrap();
+    assert_eq!(turned, frame("loco s3 functions 5 1"));
+}
+
+#[test]
+fn objects_of_zeros_are_started_in_their_place() {
+    let (mut loco, mut board, mut station) = ZEROED.clone();
+    let speed = frame("loco s3 speed28 f 4");
+    assert_eq!((loco.address(), loco.speed(), board.number()), (None, Speed::Stop, 0));
+    assert!(loco.cvs().iter().chain(board.cvs()).all(|it| *it == 0));
+    loco.hear(&speed);
+    assert_eq!(loco, ZEROED.0);
+    let cvs = cvs(&[(1, 3), (9, 1), (29, 2)]);
+    loco.power_up(&cvs);
+    board.power_up(&cvs);
+    assert_eq!((&loco, &board), (&TrackLoco::new(&cvs), &TrackBoard::new(&cvs)));
+    assert_eq!((loco.address(), board.number()), (Some(Address::Short(3)), 67));
+    loco.hear(&speed);
+    board.hear(&frame("accessory 67 1 on"));
+    assert_eq!(loco.speed(), Speed::Step { step: 1, of: 28 });
+    assert!(board.output(1));
+    loco.power_up(&cvs);
+    assert_eq!(loco, TrackLoco::new(&cvs));
+
+    assert_eq!(station.command(&speed), Err(CommandFault::QueueFull));
+    assert_eq!((station.send_next(), station.waiting(), station.entries()), (frame("idle"), 0, 0));
+    assert!(!station.start(0, 4, 2) && !station.start(2, 129, 2) && !station.start(2, 4, 9));
+    assert_eq!(station.command(&speed), Err(CommandFault::QueueFull));
+    assert!(station.start(1, 4, 2));
+    assert_eq!(station.command(&speed), Ok(()));
+    assert_eq!(station.command(&speed), Err(CommandFault::QueueFull));
+    assert_eq!([(); 2].map(|_| station.send_next()), [speed, speed]);
+    assert!(station.start(2, 4, 1));
+    assert_eq!((station.send_next(), station.entries()), (frame("idle"), 0));
+}
+
+/// Each list of up to seven bytes of 0, 1 and 255.
+#[test]
+fn frames_have_three_to_six_bytes_and_the_sum_0() {
+    for count in 0..=7 {
+        for number in 0..3usize.pow(count) {
+            let bytes: Vec<u8> = (0..count)
+                .map(|at| [0, 1, 255][number / 3usize.pow(at) % 3])
+                .collect();
+            let sum = bytes.iter().fold(0, |sum, it| sum ^ it);
+            let found = Frame::new(&bytes);
+            match (bytes.len(), sum) {
+                (3..=6, 0) => assert_eq!(found.unwrap().bytes(), bytes),
+                (3..=6, _) => assert_eq!(found, Err(FrameFault::ErrorByte)),
+                _ => assert_eq!(found, Err(FrameFault::Length)),
+            }
+        }
+    }
+}
+
 #[test]
 fn what_is_past_its_limits_is_not_made() {
     for (queue, slots, repeats) in [
@@ -734,6 +840,7 @@ fn the_example_refuses_what_show_refuses() {
         .map(|it| it.as_bytes().to_vec()),
     );
     captures.push(format!("\r\n{good}#\n{good} 100 65594 {good}").into_bytes());
+    captures.push(b"58*30 100 65594 58*30 100 131130".to_vec());
     captures.push(b"58 \xff".to_vec());
     let full = [&b"#".repeat(67_108_864 - 9)[..], b"\n"].concat();
     for rest in [
@@ -760,6 +867,22 @@ fn the_example_refuses_what_show_refuses() {
             "{rest}"
         );
     }
+    // a full disk: the last write fails
+    let full = std::fs::OpenOptions::new().write(true).open("/dev/full");
+    let mut child = Command::new(&show)
+        .stdin(Stdio::piped())
+        .stdout(full.unwrap())
+        .stderr(Stdio::piped())
+        .spawn()
+        .unwrap();
+    let mut stdin = child.stdin.take().unwrap();
+    stdin.write_all(good.as_bytes()).unwrap();
+    drop(stdin);
+    let said = child.wait_with_output().unwrap();
+    assert_eq!(
+        (said.status.code(), &said.stderr[..]),
+        (Some(3), &b"show: U5 write failed\n"[..])
+    );
 }
 
 #[test]
@@ -798,7 +921,13 @@ fn a_meter_takes_half_bits_runs_and_lists() {
 #[test]
 fn a_full_meter_takes_nothing() {
     let mut meter = Meter::default();
-    meter.push_run(58, u32::MAX).unwrap();
+    meter.push_run(58, 12_000).unwrap();
+    meter.push_run(100, 345).unwrap();
+    assert_eq!(meter.push_run(58, u32::MAX - 12_344), Err(MeterIsFull));
+    // 2^32 half-bits take half a minute, so the count in the struct becomes the greatest one
+    let words = unsafe { &mut *(&mut meter as *mut Meter).cast::<[u32; 276]>() };
+    let at = words.iter().position(|it| *it == 12_345).unwrap();
+    words[at] = u32::MAX;
     assert_eq!(meter.push(58), Err(MeterIsFull));
     assert_eq!(meter.push_run(58, 1), Err(MeterIsFull));
     assert_eq!(meter.push_many(&[58]), Err(MeterIsFull));

@@ -53,7 +53,7 @@ same_pair bytes p q e =
 pub KeptBy-prop : (bytes : List ℕ) → IsProp (KeptBy bytes)
 KeptBy-prop bytes a b = same_pair bytes a.0 b.0 (one_kept a.0 b.0 (a.1 ∙ sym b.1)) a.1 b.1
 
--- true if `to` is the address of one locomotive and the packet `entry` is sent to another
+-- true if `to` and the address of the packet `entry` are addresses of one locomotive each, and differ
 abbrev pub is_for_another : Address → Packet → Bool
 is_for_another Broadcast entry = false
 is_for_another to entry =

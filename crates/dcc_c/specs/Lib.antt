@@ -3,6 +3,7 @@ pub mod Outcomes
 pub mod LostPackets
 pub mod Packets
 pub mod Lines
+pub mod Plains
 pub mod Halves
 pub mod Locos
 pub mod Applied

@@ -1,5 +1,5 @@
 -- The statistics of a track as a C struct.
-use Rattle.std.specs.Prelude.{◌≡◌, ℕ, Bool, List, length, min, sum, Option, Some, None, if◌then◌else◌}
+use Rattle.std.specs.Prelude.{◌≡◌, ℕ, Bool, false, List, length, min, sum, Option, Some, None, if◌then◌else◌}
 use Rattle.dcc_wire.specs.Framing.{seen}
 use Rattle.dcc_timing.specs.Classes.{AreClasses}
 use Rattle.dcc_timing.specs.Outcomes.{AreOutcomes}
@@ -20,5 +20,7 @@ pub record AreStatistics (statistics : DccStatistics) (halves : List ℕ) : Type
   pub outcomes : AreOutcomes statistics.outcomes (seen halves)
   pub bits : AreBits statistics.bits (packet_bits_in halves)
   pub gap : number_if statistics.has_gap statistics.gap ≡ longest_gap halves
+  pub no_gap : statistics.has_gap ≡ false → statistics.gap ≡ 0
   pub lost : statistics.lost ≡ min 4294967295 (lost_count halves)
   pub preamble : number_if statistics.has_preamble statistics.preamble ≡ shortest_preamble halves
+  pub no_preamble : statistics.has_preamble ≡ false → statistics.preamble ≡ 0

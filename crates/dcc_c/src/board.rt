@@ -94,14 +94,14 @@ pub extern "C" fn dcc_board_apply(board: &mut DccBoard, frame: &[u8]) -> u8
 
 /// Writes true to `heard` if the decoder hears the packet of the frame `frame`, otherwise false.
 /// Returns 0 on success, and 1 (L1) or 2 (L2) if `frame` is no frame. Returns 13 (P13) if the
-/// address of the decoder is not 0 to 510. If the result is not 0, nothing is written.
+/// address of the decoder is not 0 to 511. If the result is not 0, nothing is written.
 #[unsafe(no_mangle)]
 pub extern "C" fn dcc_board_hears(board: &DccBoard, frame: &[u8], heard: &mut bool) -> u8
     ensures no_frame { frame_answer frame.now ≢ 0 → result ≡ frame_answer frame.now }
-    ensures tells { frame_answer frame.now ≡ 0 → nat_le board.now.number 510 ≡ true →
+    ensures tells { frame_answer frame.now ≡ 0 → nat_le board.now.number 511 ≡ true →
         (own : Board) × (packet : Packet) × (own.number ≡ board.now.number) × (spelling packet ≡ frame.now)
         × (heard.new ≡ is_heard_by (Who.Board own) packet) × (result ≡ 0) }
-    ensures board { result ≡ 0 → nat_le board.now.number 510 ≡ true }
+    ensures board { result ≡ 0 → nat_le board.now.number 511 ≡ true }
     ensures refused { result ≢ 0 → result ≢ frame_answer frame.now → result ≡ 13 }
     ensures untold { result ≢ 0 → heard.new ≡ heard.old }
 {
@@ -133,12 +133,12 @@ fn hears_frame(own: Board, frame: &[u8]) -> bool
 
 /// Returns the address of the decoder with the fields of `board`.
 ///
-/// Errors: P13 if the address is not 0 to 510.
+/// Errors: P13 if the address is not 0 to 511.
 fn own_board(board: &DccBoard) -> Result<Board, PacketFault>
-    ensures board { IfOk result (λ own. (own.number ≡ board.now.number) × (nat_le board.now.number 510 ≡ true)) }
-    ensures fault { IfErr result (λ fault. (fault ≡ PacketFault.State) × (nat_le board.now.number 510 ≡ false)) }
+    ensures board { IfOk result (λ own. (own.number ≡ board.now.number) × (nat_le board.now.number 511 ≡ true)) }
+    ensures fault { IfErr result (λ fault. (fault ≡ PacketFault.State) × (nat_le board.now.number 511 ≡ false)) }
 {
-    if board.number > 510 {
+    if board.number > 511 {
         return Err(PacketFault::State);
     }
     Board::new(board.number)

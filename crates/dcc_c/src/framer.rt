@@ -9,14 +9,14 @@ ghost use Rattle.dcc_wire.specs.Runs.{rest_after_run};
 ghost use Rattle.dcc_c.specs.Outcomes.{outcome_numbers, outcome_seen, seen_at_answer};
 
 use crate::outcome::{DccOutcome, outcome_of};
-use dcc_wire::{Framer, KeptFramer};
+use dcc_wire::KeptFramer;
 
 /// Creates a framer that has taken no half-bit.
 #[unsafe(no_mangle)]
 pub extern "C" fn dcc_framer_new() -> KeptFramer
     ensures { StandsFor (kept_rest result) [] }
 {
-    Framer::new().keep()
+    KeptFramer::new()
 }
 
 /// Takes a half-bit of `us` microseconds, as `Framer::push` does. If an outcome ends with this

@@ -23,6 +23,7 @@ mod meter;
 mod outcome;
 mod packet;
 mod packet_fields;
+mod plain;
 mod possible_board;
 mod possible_loco;
 mod push_many;

@@ -36,8 +36,9 @@ has_more_words line [] = false
 has_more_words line (word ∷ words) = word.line == line
 
 -- both captures of an input in which `words` follow a word `---` at the beginning of line `line`.
--- The first capture has no half-bit, and the second capture is `halves_of_words most words last`.
--- If the first of `words` is on line `line`, the error is U2.
+-- The first capture has no half-bit, and the second capture is `halves_of_words most words last`:
+-- `most` is the limit of half-bits, and `last` is the error after the words. If the first of `words`
+-- is on line `line`, the error is U2.
 abbrev pub behind_mark : ℕ → ℕ → List PlacedWord → Option KeptFault → Both
 behind_mark line most words last =
     if has_more_words line words then fault_alone (Number line) else only_second (halves_of_words most words last)

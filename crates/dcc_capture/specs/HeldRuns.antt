@@ -43,8 +43,8 @@ ReadsRun old before held (Err failed) new left after =
 
 -- The list `halves` follows the half-bits `durations`. The function `items` gives the items of a list
 -- of half-bits. If the result is Ok, the lines of the items that `halves` adds were appended to `held`,
--- and `left` is buffered. If the result is an error, this holds for the first half-bits of `halves`, and
--- a write failed or wrote no byte.
+-- and `left` is buffered. If the result is an error, `halves` begins with a list `some`, the lines of
+-- the items that `some` adds were appended, and a write failed or wrote no byte.
 pub record HoldsListing {A : Type 0} (IsLineOf : ℕ → A → List ℕ → Type 0) (items : List ℕ → List (ℕ × A))
     (durations halves : List ℕ) (before : WriterState) (held : List ℕ) (result : Result (Unit {0}) Failed)
     (left : List ℕ) (after : WriterState)

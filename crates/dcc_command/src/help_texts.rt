@@ -24,7 +24,7 @@ says how to make a capture of the file of a logic analyser.";
 /// The help text of the subcommand `lost`.
 pub const LOST: &str = "\
 It reads a capture from standard input, as `dcc show` does, and writes a line for each
-packet that was sent but that no decoder hears:
+packet that a decoder of this toolkit does not hear:
 
   dcc lost --words < capture.txt
   dcc lost --spikes 5 < capture.txt
@@ -32,10 +32,10 @@ packet that was sent but that no decoder hears:
 
 A line has the number of the last half-bit of the packet, the packet, and the causes:
   preamble N               only N half-bits of ones before the packet, fewer than 20
-  preamble N after P       half-bit P ends a rejection, and N are left after it
+  preamble N after P       half-bit P ends a refusal, and N are left after it
   ones N from A to B       N half-bits of ones outside 52 to 64 microseconds
   zeros N from A to B      N half-bits of zeros outside 90 to 10000 microseconds
-No packet is listed both here and by `dcc show`. A packet with a rejection inside it
+No packet is listed both here and by `dcc show`. A packet with a refusal inside it
 can be listed here too. With --spikes US, half-bits shorter than US microseconds are
 joined with their neighbours, and a packet can have one more cause:
   spikes N                 N such half-bits in the packet and its preamble
@@ -107,21 +107,23 @@ It writes a line for each question, in hex, with yes or no, and then the value o
 
 /// The help text of the subcommand `timing`.
 pub const TIMING: &str = "\
-It reads a capture from standard input, as `dcc show` does, and writes one figure on
-each line. Times are in microseconds:
+It reads a capture from standard input, as `dcc show` does, and writes one statistic
+on each line. Times are in microseconds:
 
   dcc timing < capture.txt
   dcc timing < capture.txt | grep -e most -e station
 
-  halves, time, packets, refused H1 to H5   half-bits, their time, packets, rejections
+  halves, time, packets, refused H1 to H5   half-bits, their time, packets, refusals
+  lost         packets that are lost, as `dcc lost` lists them
   gap          from the end of a packet to the end of the next
+  preamble     the fewest half-bits of ones before a packet that is seen or lost
   ones, zeros  half-bits of 52 to 64, of 90 to 10000
   differences  between the two half-bits of ones, in packets
   sums         of the two half-bits of zeros, in packets
   below, between, above   half-bits of neither a one nor a zero
 Each has its count, the least, the greatest and the mean, or none. Lines with `station`
-and `decoder` have the limits of NMRA S-9.1. A capture with an error has no figures:
-the program ends with U2, U4 or U7, as `dcc show` does. docs/FORMATS.md has each figure.";
+and `decoder` have the limits of NMRA S-9.1. A capture with an error has no statistics:
+the program ends with U2, U4 or U7, as `dcc show` does. docs/FORMATS.md has each statistic.";
 
 /// The help text of the subcommand `what`.
 pub const WHAT: &str = "\

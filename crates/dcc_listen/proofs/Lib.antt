@@ -9,6 +9,4 @@ pub mod LostTextLemmas
 pub mod WorkedExamples
 pub mod SpikedCallLemmas
 pub mod SpikedTextLemmas
-pub mod FunctionPlaces
-pub mod PlainFunctionLemmas
 pub mod PlainLaws

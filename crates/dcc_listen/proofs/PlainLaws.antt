@@ -1,26 +1,11 @@
 -- Outcomes have one listing in plain words.
-use Rattle.std.proofs.Common.{◌≡◌, ℕ, ◌+◌, List, [], ◌∷◌, Option, None, Some, refl, sym, ap, ◌∙◌}
+use Rattle.std.proofs.Common.{◌≡◌, ℕ, ◌+◌, List, [], ◌∷◌, sym, ap, ◌∙◌}
 use Rattle.dcc_wire.specs.declared.seen.Seen.{Seen}
 use Rattle.dcc_wire.specs.declared.seen.Seen.TheVariants.{Packet}
-use Rattle.dcc_packet.specs.declared.packet.Packet.{Packet as PacketOf}
-use Rattle.dcc_packet.proofs.OneSpelling.{one_packet}
-use Rattle.dcc_service.specs.declared.packet.ServicePacket.{ServicePacket}
 use Rattle.dcc_capture.specs.Listing.{numbered_text}
-use Rattle.dcc_listen.specs.PlainWords.{IsPlainText, IsServicePacketOf, plain_words}
+use Rattle.dcc_plain.proofs.PlainLaws.{one_plain_text}
 use Rattle.dcc_listen.specs.PlainListing.{IsPlainLine, IsPlainOutcome}
 use Rattle.dcc_listen.specs.PlainLaws.{OnePlainListing}
-
-one_service_packet : (frame : List ℕ) (one other : Option ServicePacket) → IsServicePacketOf frame one
-    → IsServicePacketOf frame other → one ≡ other
-one_service_packet frame None None first second = refl
-one_service_packet frame (Some packet) other first second = sym (second.only packet first.spelled)
-one_service_packet frame None (Some packet) first second = first.only packet second.spelled
-
-one_plain_text : (frame one other : List ℕ) → IsPlainText frame one → IsPlainText frame other → one ≡ other
-one_plain_text frame one other first second =
-    first.4 ∙ ap (λ (packet : PacketOf). plain_words packet first.1)
-    (one_packet first.0 second.0 (first.2 ∙ sym second.2))
-    ∙ ap (plain_words second.0) (one_service_packet frame first.1 second.1 first.3 second.3) ∙ sym second.4
 
 one_plain_outcome : (outcome : Seen) (one other : List ℕ) → IsPlainOutcome outcome one → IsPlainOutcome outcome other
     → one ≡ other

@@ -9,7 +9,6 @@ pub mod TimingText
 pub mod Timed
 pub mod LostListing
 pub mod SpikedListing
-pub mod PlainWords
 pub mod PlainListing
 pub mod PlainLaws
 pub mod Inner

@@ -8,7 +8,7 @@ use Rattle.dcc_io.specs.InputState.{InputState}
 use Rattle.dcc_io.specs.WriterState.{WriterState}
 use Rattle.dcc_capture.specs.Listing.{AreLines, numbered_text, refusal_text}
 use Rattle.dcc_capture.specs.Shown.{WritesLinesOfCapture}
-use Rattle.dcc_listen.specs.PlainWords.{IsPlainText}
+use Rattle.dcc_plain.specs.PlainText.{IsPlainText}
 
 -- `text` is the text of an outcome: the plain words of a packet, or the text of a refusal
 abbrev pub IsPlainOutcome : Seen → List ℕ → Type 0

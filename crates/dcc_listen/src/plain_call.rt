@@ -4,9 +4,10 @@ ghost use Rattle.dcc_io.specs.Faults.{as_tool_fault};
 ghost use Rattle.dcc_io.specs.InputState.{ReadHasFailure};
 ghost use Rattle.dcc_listen.specs.PlainListing.{IsPlainLine, ShowsPlain};
 
-use crate::plain_words::{PlainLine, append_plain_words};
+use arrayvec::ArrayVec;
 use dcc_capture::{LineForm, list_outcomes, outcome_line};
 use dcc_io::{Failed, HeldLines, Input, Sink, Source, ToolFault, append, append_decimal};
+use dcc_plain::plain_text;
 use dcc_wire::{Frame, Seen};
 
 /// Writes a line for each outcome of a capture, with packets in plain words. The line begins with the
@@ -38,6 +39,9 @@ pub fn show_plain<R: Source, W: Sink>(input: &mut Input<R>, writer: &mut W) -> R
     }
     list_outcomes(input, writer, &PlainLines)
 }
+
+/// A line with capacity for a number, a space, a text in plain words, and a line feed.
+type PlainLine = ArrayVec<u8, 267>;
 
 /// The lines of `show_plain`.
 #[derive(Drop)]
@@ -71,7 +75,7 @@ fn plain_line(half: u32, frame: &Frame) -> PlainLine
     let mut line = PlainLine::new();
     append_decimal(&mut line, half);
     append(&mut line, b" ");
-    append_plain_words(&mut line, frame);
+    append(&mut line, plain_text(frame).as_slice());
     append(&mut line, b"\n");
     line
 }

@@ -54,7 +54,9 @@ pub fn same_input<R: Source, W: Sink>(
 
 /// Reads both captures to their ends, and returns the verdict on their packets. The packets of the
 /// first capture are stored, because this capture comes before the second in the input.
-fn compare_both<R: Source>(
+///
+/// Errors: those of [`same_input`] but U5.
+pub fn compare_both<R: Source>(
     alloc: Global,
     input: &mut Input<R>,
     who: Who,

@@ -10,7 +10,6 @@ pub mod LostLemmas
 pub mod FinderLemmas
 pub mod RunLemmas
 pub mod LawLemmas
-pub mod StillLemmas
 pub mod CauseLaw
 pub mod CalmLemmas
 pub mod WorkedExamples
@@ -23,4 +22,3 @@ pub mod SingleLemmas
 pub mod FoundCauseLaw
 pub mod PreambleLemmas
 pub mod FigureLemmas
-pub mod StillFigureLemmas

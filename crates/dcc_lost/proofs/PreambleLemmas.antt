@@ -122,10 +122,6 @@ module _ (durations : List ℕ) (us : ℕ) where
       ∙ ap (λ n. unused_after n (Some (length durations, answer))) (length-append durations (us ∷ []))
       ∙ after_new (length durations) answer)
 
-pub unused_is_least : (durations : List ℕ) → unused_at_end durations ≡ min 20 (all_unused_at_end durations)
-unfolding unused_at_end all_unused_at_end
-unused_is_least durations = refl
-
 -- half-bits of ones
 
 pub ones_push : (durations : List ℕ) (us : ℕ)

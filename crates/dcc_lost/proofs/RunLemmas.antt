@@ -61,10 +61,3 @@ run_ends durations us n place e = e ∙ sym (append-nil (packets_lost durations)
 
 pub run_none : (durations : List ℕ) (us : ℕ) → durations ++ replicate 0 us ≡ durations
 run_none durations us = append-nil durations
-
-pub run_split : (durations : List ℕ) (us k n : ℕ) → k ≤ n
-    → (durations ++ replicate k us) ++ replicate (n - k) us ≡ durations ++ replicate n us
-run_split durations us k n within =
-    let all : k + (n - k) ≡ n = omega (arith, within) in
-    append_assoc durations (replicate k us) (replicate (n - k) us)
-    ∙ ap (λ l. durations ++ l) (replicate-append-replicate k (n - k) us ∙ ap (λ m. replicate m us) all)

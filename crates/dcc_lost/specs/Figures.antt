@@ -37,20 +37,3 @@ pub record AreTrackFigures (timings : Timings) (ended : Ended) (ones unused : �
     : Type 0 where
   pub measured : Measures timings durations
   pub lost : AreLostFigures ended ones unused last durations
-
--- the number `ones` of half-bits of ones at the end of a list, at most 65535, stays the same when a
--- half-bit of `us` microseconds is appended
-pub record IsSteady (ones us : ℕ) : Type 0 where
-  pub most : nearest_class us ≡ One → ones ≡ 65535
-  pub none : nearest_class us ≢ One → ones ≡ 0
-
--- More half-bits of `us` microseconds have no outcome, lose no packet, and change none of the numbers
--- of a `TrackFigures` with the parts `ones` and `unused`. The number `ones` has its greatest or its
--- least value, and `unused` has its greatest value. The last 130 preambles `last` are `ones`, and the
--- last 130 half-bits `recent` are `us`. The argument `hunts` is true if no body is unfinished.
-pub record AreStill (hunts : Bool) (ones unused : ℕ) (last recent : List ℕ) (us : ℕ) : Type 0 where
-  pub unused_most : unused ≡ 65535
-  pub hunting : hunts ≡ true
-  pub ones_stay : IsSteady ones us
-  pub preambles : last ≡ replicate 130 ones
-  pub halves : recent ≡ replicate 130 us

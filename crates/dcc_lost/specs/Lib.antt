@@ -5,7 +5,6 @@ pub mod Causes
 pub mod Finding
 pub mod Inner
 pub mod LostLaws
-pub mod Still
 pub mod Reads
 pub mod Joined
 pub mod JoinedLost

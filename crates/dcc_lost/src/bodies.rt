@@ -9,8 +9,7 @@ ghost use Rattle.dcc_lost.specs.Nearest.{nearest_class};
 ghost use Rattle.dcc_lost.specs.Lost.{frame_after_ones, packet_of_length};
 
 use crate::nearest::{corrected, is_nearest_zero, ones_before};
-use dcc_timing::push_framer;
-use dcc_wire::{Frame, Framer, Half, KeptFramer, Seen};
+use dcc_wire::{Frame, Half, KeptFramer, Seen};
 
 /// Returns the outcome of the body that begins with the first of `halves`, whose half-bits have
 /// their nearest classes. Returns `Nothing` if the body is unfinished.
@@ -21,7 +20,7 @@ fn outcome_of(halves: &[u16]) -> Seen
 {
     let mut framer = after_preamble();
     'halves: for us in halves {
-        let seen = push_framer(&mut framer, corrected(*us));
+        let seen = framer.push(corrected(*us));
         if !seen.is_nothing() {
             return seen;
         }
@@ -33,10 +32,10 @@ fn outcome_of(halves: &[u16]) -> Seen
 fn after_preamble() -> KeptFramer
     ensures { kept_rest result ≡ Hunting 20 }
 {
-    let mut framer = Framer::new().keep();
+    let mut framer = KeptFramer::new();
     let mut ones = 0u32;
     'ones: while ones < 20 {
-        let _ = push_framer(&mut framer, 58);
+        let _ = framer.push(58);
         ones += 1;
     }
     framer

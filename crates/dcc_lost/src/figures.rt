@@ -6,7 +6,7 @@ ghost use Rattle.dcc_timing.specs.Recent.{recent_numbers};
 ghost use Rattle.dcc_lost.specs.Figures.{AreTrackFigures, ended_preamble};
 
 use crate::causes::first_or_zero;
-use crate::finder::{are_all, has_start_bits, longest_frame_at_end};
+use crate::finder::{has_start_bits, longest_frame_at_end};
 use crate::nearest::{is_nearest_one, is_nearest_zero};
 use dcc_timing::{LastNumbers, Timings};
 use dcc_wire::{Fault, Frame, Seen};
@@ -113,7 +113,6 @@ impl TrackFigures {
     ghost use Rattle.dcc_wire.specs.Kept.{kept_rest};
     ghost use Rattle.dcc_timing.specs.Measures.{Measures};
     ghost use Rattle.dcc_timing.specs.Numbers.{keep_last};
-    ghost use Rattle.dcc_lost.specs.Figures.{AreStill};
     ghost use Rattle.dcc_lost.specs.Preambles.{lost_count, shortest_preamble};
     ghost use Rattle.dcc_lost.specs.MeasuresTrack.{MeasuresTrack};
 
@@ -314,31 +313,9 @@ impl TrackFigures {
     {
         let mut at = 0;
         'run: while at < n {
-            if self.pass_still(us, at, n - at) {
-                return;
-            }
             self.push(us);
             at += 1;
         }
-    }
-
-    /// Appends `n` half-bits of `us` microseconds to the list if these half-bits change only the
-    /// counts of half-bits, and returns true. Otherwise returns false, and nothing changes. The list
-    /// ends with `at` half-bits of the run. After 65535 and then 130 half-bits of a run, more of them
-    /// change only the counts of half-bits.
-    fn pass_still(&mut self, us: u16, at: u32, n: u32) -> bool
-        requires { self.old.timings.halves + n < 2 ^ 32 }
-        ensures measures { IsTrue result → (durations : List ℕ) → MeasuresTrack self.old durations
-            → MeasuresTrack self.new (durations ++ replicate n us) }
-        ensures count { IsTrue result → self.new.timings.halves ≡ self.old.timings.halves + n }
-        ensures left { result ≡ false → (durations : List ℕ) → MeasuresTrack self.old durations
-            → MeasuresTrack self.new durations }
-        ensures left_count { result ≡ false → self.new.timings.halves ≡ self.old.timings.halves }
-    {
-        if at < 66_000 || !self.is_still(us) {
-            return false;
-        }
-        self.timings.pass_run(us, n)
     }
 
     /// Appends `n` half-bits of `us` microseconds to the list, if the longer list has fewer than 2^32
@@ -356,23 +333,6 @@ impl TrackFigures {
         }
         self.push_run(us, n);
         true
-    }
-
-    /// Returns true if more half-bits of `us` microseconds have no outcome, lose no packet and leave
-    /// all preambles as they are.
-    fn is_still(&self, us: u16) -> bool
-        ensures { (durations : List ℕ) → MeasuresTrack self.now durations → IsTrue result
-            ↔ AreStill (is_hunting (rest durations)) self.now.ones self.now.unused
-            (keep_last 130 (recent_numbers self.now.preambles)) (keep_last 130 durations) us }
-    {
-        are_still(
-            self.timings.is_hunting(),
-            self.ones,
-            self.unused,
-            self.preambles.last(130),
-            self.timings.recent().last(130),
-            us,
-        )
     }
 
     /// Returns the statistics of the half-bits and of the packets that are seen.
@@ -409,7 +369,7 @@ ghost use Rattle.std.specs.Option.{option_map};
 ghost use Rattle.dcc_wire.specs.Framing.{is_hunting, report_at, rest, seen};
 ghost use Rattle.dcc_timing.specs.Measures.{Measures};
 ghost use Rattle.dcc_timing.specs.Numbers.{keep_last};
-ghost use Rattle.dcc_lost.specs.Figures.{AreStill, IsSteady, preambles_from};
+ghost use Rattle.dcc_lost.specs.Figures.{preambles_from};
 ghost use Rattle.dcc_lost.specs.Inner.{frame_ended};
 ghost use Rattle.dcc_lost.specs.Lost.{frame_lost};
 ghost use Rattle.dcc_lost.specs.Preambles.{all_unused_at_end, nearest_ones_at_end, preamble_of};
@@ -573,27 +533,6 @@ fn ones_after(ones: u16, halves: &[u16]) -> u16
         at -= 1;
     }
     ones.saturating_add(halves.len().min(65535) as u16)
-}
-
-/// Returns true if more half-bits of `us` microseconds change no preamble. The numbers `ones` and
-/// `unused` belong to the end of a list, `last` are the last 130 preambles, and `recent` are the last
-/// 130 half-bits. The parameter `hunts` is false if a body is unfinished.
-fn are_still(hunts: bool, ones: u16, unused: u16, last: &[u16], recent: &[u16], us: u16) -> bool
-    ensures { IsTrue result ↔ AreStill hunts ones unused last.now recent.now us }
-{
-    unused == 65535 && hunts && is_steady(ones, us) && are_all(last, ones) && are_all(recent, us)
-}
-
-/// Returns true if a number `ones` of half-bits of ones stays the same when a half-bit of `us`
-/// microseconds is appended. The greatest number is 65535.
-fn is_steady(ones: u16, us: u16) -> bool
-    ensures { IsTrue result ↔ IsSteady ones us }
-{
-    if is_nearest_one(us) {
-        ones == 65535
-    } else {
-        ones == 0
-    }
 }
 
 /// Returns the number of half-bits at the end of a list that no outcome uses, at most 65535. A

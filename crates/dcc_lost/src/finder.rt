@@ -44,7 +44,6 @@ impl LostFinder {
     ghost use Rattle.dcc_lost.specs.Unused.{unused_at_end};
     ghost use Rattle.dcc_lost.specs.Causes.{packet_at_end, packet_lost, packets_lost, report_lost, with_causes};
     ghost use Rattle.dcc_lost.specs.Reads.{Follows};
-    ghost use Rattle.dcc_lost.specs.Still.{IsStill};
 
     /// Creates a finder that has read no half-bit.
     pub fn new() -> LostFinder
@@ -166,21 +165,8 @@ impl LostFinder {
             if lost.is_some() {
                 return LostRun { lost, at };
             }
-            if at >= 400 && self.is_still(us) {
-                return LostRun { lost: None, at: n };
-            }
         }
         LostRun { lost: None, at }
-    }
-
-    /// Returns true if more half-bits of `us` microseconds change nothing.
-    pub(crate) fn is_still(&self, us: u16) -> bool
-        ensures { IsTrue result ↔ IsStill (heard_state self.now.heard) (recent_numbers self.now.recent)
-            (recent_numbers self.now.unused) us }
-    {
-        are_all(self.recent.last(130), us)
-            && are_all(self.unused.last(130), 20)
-            && self.heard.is_still()
     }
 
     /// Returns false if no packet is lost at the last half-bit that the finder has read.
@@ -244,20 +230,6 @@ pub(crate) fn has_start_bits(halves: &[u16]) -> bool
         && is_nearest_zero(halves[0])
         && is_nearest_zero(halves[18])
         && is_nearest_zero(halves[36])
-}
-
-/// Returns true if `numbers` has 130 elements, and each of them equals `number`.
-pub(crate) fn are_all(numbers: &[u16], number: u16) -> bool
-    ensures { IsTrue result ↔ (numbers.now ≡ replicate 130 number) }
-{
-    numbers.len() == 130 && each_is(numbers, number)
-}
-
-/// Returns true if each element of `numbers` equals `number`.
-fn each_is(numbers: &[u16], number: u16) -> bool
-    ensures { IsTrue result ↔ EachIndex numbers.now (λ k. slice_index numbers.now k ≡ number) }
-{
-    numbers.iter().all(|x| *x == number)
 }
 
 /// Returns the longest frame whose body is the end of `recent`, after at least 8 half-bits of ones.

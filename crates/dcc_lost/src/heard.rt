@@ -2,8 +2,7 @@
 
 ghost use Rattle.std.specs.Prelude.{◌≡◌, ◌≤◌};
 
-use dcc_timing::push_framer;
-use dcc_wire::{Fault, Framer, KeptFramer, Seen};
+use dcc_wire::{Fault, KeptFramer, Seen};
 
 /// A framer, and the numbers of half-bits that follow its last outcome.
 #[repr(C)]
@@ -36,7 +35,7 @@ impl Heard {
         ensures { Hears (kept_rest result.framer) result.unused (since_of result.refused result.since) [] }
     {
         Heard {
-            framer: Framer::new().keep(),
+            framer: KeptFramer::new(),
             unused: 0,
             refused: false,
             since: 0,
@@ -54,7 +53,7 @@ impl Heard {
             → Hears (kept_rest self.old.framer) self.old.unused (since_of self.old.refused self.old.since) durations
             → seen (durations ++ us ∷ []) ≡ seen durations ++ report_at (length durations) result }
     {
-        let seen = push_framer(&mut self.framer, us);
+        let seen = self.framer.push(us);
         self.count(&seen);
         seen
     }
@@ -83,16 +82,6 @@ impl Heard {
         ensures { result ≡ is_hunting (kept_rest self.now.framer) }
     {
         self.framer.is_hunting()
-    }
-
-    /// Returns true if three conditions hold: no body is unfinished, no outcome uses the last 20
-    /// half-bits, and `since_refusal` is `None` or its greatest value, 255.
-    pub(crate) fn is_still(&self) -> bool
-        ensures { IsTrue result ↔ ((self.now.unused ≡ 20) × (is_hunting (kept_rest self.now.framer) ≡ true)
-            × IfSome (since_of self.now.refused self.now.since) (λ count. count ≡ 255)) }
-    {
-        let is_late = !self.refused || self.since == 255;
-        self.unused == 20 && is_late && self.is_hunting()
     }
 
     /// Returns the number of half-bits at the end of the pushed half-bits that no outcome uses, at

@@ -2,17 +2,19 @@
 -- any list of half-bits.
 use Rattle.std.specs.Prelude.{◌≡◌, ◌≤◌, ◌<◌, ◌⊎◌, ◌↔◌, ℕ, ◌+◌, true, false, is_some, List, [], ◌∷◌, ◌++◌, length, map}
 use Rattle.std.specs.Prelude.{replicate}
-use Rattle.std.specs.List.{list_any}
+use Rattle.std.specs.List.{filter_map, list_any}
 use Rattle.dcc_wire.specs.Framing.{Hunting, rest}
-use Rattle.dcc_wire.specs.Jitter.{AreWithin}
+use Rattle.dcc_wire.specs.Jitter.{AllNominal, AreWithin, CanBeSentAs}
+use Rattle.dcc_wire.specs.Recovery.{open_end, at_open_end}
 use Rattle.dcc_wire.specs.Sending.{sent_all}
 use Rattle.dcc_packet.specs.declared.packet.Packet.{Packet}
+use Rattle.dcc_packet.specs.Spelling.{spelling}
 use Rattle.dcc_regs.specs.declared.register.Who.{Who}
 use Rattle.dcc_regs.specs.declared.register.Register.TheVariants.{Speed as SpeedRegister}
 use Rattle.dcc_regs.specs.Heard.{hears, heard}
 use Rattle.dcc_regs.specs.Result.{RegisterMap, result}
 use Rattle.dcc_regs.specs.Safety.{is_standing, is_stop_packet, can_move}
-use Rattle.dcc_order.specs.Hearing.{ArePackets, HasHeardHalves}
+use Rattle.dcc_order.specs.Hearing.{ArePackets, HasHeardHalves, packet_frame}
 use Rattle.dcc_order.specs.SendingLaws.{SentPacket, spelled_out}
 
 -- the half-bits of the packets `sent`, one packet after the other
@@ -31,14 +33,18 @@ pub record CanBeHeardAfterNoise (noise : List ℕ) (first : SentPacket) (others 
   -- the packets in the noise
   pub before : List Packet
   pub in_noise : ArePackets before noise
-  -- at most one packet: the outcome of a body that begins in the noise and ends after the noise, if
-  -- this outcome is a packet
+  -- at most one packet: the outcome of the body that the noise leaves unfinished, if this outcome is a
+  -- packet
   pub unfinished : List Packet
+  pub of_open_body : map spelling unfinished
+      ≡ filter_map (λ at. packet_frame at.1) (at_open_end (length noise) (open_end noise))
   pub at_most_one : length unfinished ≤ 1
   -- a list with the packet `first`, or an empty list if `first` is lost. If the preamble of `first`
   -- has at least 18 ones, `first` is not lost.
   pub kept : List Packet
   pub kept_or_lost : (kept ≡ first.packet ∷ []) ⊎ ((kept ≡ []) × (first.timing.preamble < 18))
+  -- `first` is lost only if the noise leaves a body unfinished
+  pub lost_by_body : kept ≡ [] → is_some (open_end noise) ≡ true
   -- all packets of `others`, in order, and no further packet
   pub parts : all ≡ before ++ unfinished ++ kept ++ packets_of_sent others
 
@@ -83,6 +89,29 @@ MeasuringChangesNoDecoder =
     → HasHeardHalves (before ++ measured ++ after) who start who' now
     ↔ HasHeardHalves (before ++ halves_of_sent sent ++ after) who start who' now
 
+-- let each half-bit of the packets `sent` be within the limits of a station by itself, and be measured
+-- with an error of at most 3 microseconds. The measured half-bits contain exactly these packets.
+abbrev pub VariedPacketsAreHeard : Type 0
+VariedPacketsAreHeard =
+    (sent : List SentPacket) (durations measured : List ℕ) → CanBeSentAs (map spelled_out sent) durations
+    → AreWithin 3 durations measured → ArePackets (packets_of_sent sent) measured
+
+-- let each half-bit of the packets `sent` have the nominal duration, and be measured with an error of at
+-- most 6 microseconds. The measured half-bits contain exactly these packets.
+abbrev pub NominalPacketsAreHeard : Type 0
+NominalPacketsAreHeard =
+    (sent : List SentPacket) (measured : List ℕ) → AllNominal (map spelled_out sent)
+    → AreWithin 6 (halves_of_sent sent) measured → ArePackets (packets_of_sent sent) measured
+
+-- let the half-bits `measured` be as in `VariedPacketsAreHeard`. A decoder has heard `measured` between
+-- `before` and `after` if and only if it has heard the half-bits of `sent` between `before` and `after`.
+abbrev pub VaryingChangesNoDecoder : Type 0
+VaryingChangesNoDecoder =
+    (sent : List SentPacket) (before durations measured after : List ℕ) (who who' : Who) (start now : RegisterMap)
+    → CanBeSentAs (map spelled_out sent) durations → AreWithin 3 durations measured
+    → HasHeardHalves (before ++ measured ++ after) who start who' now
+    ↔ HasHeardHalves (before ++ halves_of_sent sent ++ after) who start who' now
+
 -- the half-bits of the packets `earlier`, and then of copies of the packet `copy`, with `noise` in
 -- place of one copy. There are `copies` copies before the noise and `more` copies after the noise.
 abbrev pub copies_around_noise : List SentPacket → SentPacket → ℕ → ℕ → List ℕ → List ℕ
@@ -110,4 +139,35 @@ OneOfThreeStopsIsEnough =
     → let track = copies_around_noise earlier stop copies more noise ++ further in
     ArePackets (packets_of_sent earlier ++ later) track → HasHeardHalves track who start who' now
     → is_some (start SpeedRegister) ≡ true → hears who stop.packet ≡ true → is_stop_packet stop.packet ≡ true
+    → list_any can_move (heard who later) ≡ false → is_standing (now SpeedRegister) ≡ true
+
+-- the half-bits `before`, and then those of copies of the packet `copy`, with `noise` in place of one
+-- copy. There are `copies` copies before the noise and `more` copies after the noise.
+abbrev pub copies_after : List ℕ → SentPacket → ℕ → ℕ → List ℕ → List ℕ
+copies_after before copy copies more noise =
+    (before ++ halves_of_sent (replicate copies copy)) ++ noise ++ halves_of_sent (replicate more copy)
+
+-- Any half-bits `start`, which can be noise, come before the whole packets `first` and `earlier`, and
+-- `front` are the packets of all these half-bits. If noise then replaces one of three copies of a
+-- packet, the packet is heard.
+abbrev pub OneOfThreeCopiesIsHeardAfterNoise : Type 0
+OneOfThreeCopiesIsHeardAfterNoise =
+    (start : List ℕ) (first : SentPacket) (earlier : List SentPacket) (copy : SentPacket) (copies more : ℕ)
+    (noise further : List ℕ) (front all : List Packet) → copies + more ≡ 2
+    → let before = start ++ halves_of_sent (first ∷ earlier) in
+    ArePackets front before → ArePackets all (copies_after before copy copies more noise ++ further)
+    → (between : List Packet) × (after : List Packet) × (all ≡ front ++ between ++ copy.packet ∷ after)
+
+-- Let `front` be as in `OneOfThreeCopiesIsHeardAfterNoise`, and let the copies be copies of the packet
+-- `stop`, which the decoder hears. The locomotive stands at the end if no heard packet after `front` sets
+-- the speed to a step.
+abbrev pub OneOfThreeStopsIsEnoughAfterNoise : Type 0
+OneOfThreeStopsIsEnoughAfterNoise =
+    (start : List ℕ) (first : SentPacket) (earlier : List SentPacket) (stop : SentPacket) (copies more : ℕ)
+    (noise further : List ℕ) (front later : List Packet) (who who' : Who) (begin now : RegisterMap)
+    → copies + more ≡ 2
+    → let before = start ++ halves_of_sent (first ∷ earlier) in
+    let track = copies_after before stop copies more noise ++ further in
+    ArePackets front before → ArePackets (front ++ later) track → HasHeardHalves track who begin who' now
+    → is_some (begin SpeedRegister) ≡ true → hears who stop.packet ≡ true → is_stop_packet stop.packet ≡ true
     → list_any can_move (heard who later) ≡ false → is_standing (now SpeedRegister) ≡ true

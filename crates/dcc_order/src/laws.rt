@@ -22,7 +22,9 @@ ghost use Rattle.dcc_order.specs.SafeTracks.{StandingLocoStandsOnTrack};
 ghost use Rattle.dcc_order.specs.NoisyTracks.{NoiseCostsNoPacketButTheFirst, NoiseBetweenBodiesCostsNoPacket};
 ghost use Rattle.dcc_order.specs.NoisyTracks.{DecodersHearPacketsAfterNoise, MeasuredPacketsAreHeard};
 ghost use Rattle.dcc_order.specs.NoisyTracks.{MeasuringChangesNoDecoder, OneOfThreeCopiesIsHeard};
-ghost use Rattle.dcc_order.specs.NoisyTracks.{OneOfThreeStopsIsEnough};
+ghost use Rattle.dcc_order.specs.NoisyTracks.{OneOfThreeStopsIsEnough, NominalPacketsAreHeard, VariedPacketsAreHeard};
+ghost use Rattle.dcc_order.specs.NoisyTracks.{VaryingChangesNoDecoder, OneOfThreeCopiesIsHeardAfterNoise};
+ghost use Rattle.dcc_order.specs.NoisyTracks.{OneOfThreeStopsIsEnoughAfterNoise};
 ghost use Rattle.dcc_order.specs.OneMore.{FinishedBlocksStay, OneMorePacket};
 ghost use Rattle.dcc_order.specs.Laws.{AlikeIsTheVerdict, AlikeListsAgreeAfterEachBlock, AlikeListsLeaveTheSame};
 
@@ -192,12 +194,21 @@ pub fn measured_packets_are_heard()
     ensures packets { MeasuredPacketsAreHeard }
     // If other half-bits come before and after the packets, the errors change no decoder.
     ensures anywhere { MeasuringChangesNoDecoder }
+    // The half-bits of the station can differ from bit to bit, each within its limits.
+    ensures varied { VariedPacketsAreHeard }
+    ensures varied_anywhere { VaryingChangesNoDecoder }
+    // An error of at most 6 microseconds loses no packet with the nominal durations.
+    ensures nominal { NominalPacketsAreHeard }
 {}
 
-/// Theorem: if noise replaces one of three copies of a packet in a row, the packet is heard.
+/// Theorem: let a new framer take whole packets, and then three copies of a packet in a row, one of
+/// which noise replaces. The packet is then heard. It is also heard if any half-bits come before the
+/// whole packets, and at least one packet is whole: a locomotive has just gained contact, for example.
 pub fn one_of_three_copies_is_heard()
     ensures copy { OneOfThreeCopiesIsHeard }
     // If the packet is a stop that the decoder hears, the locomotive stands, unless the decoder
     // hears a packet after the earlier packets that sets the speed to a step.
     ensures stops { OneOfThreeStopsIsEnough }
+    ensures copy_after_noise { OneOfThreeCopiesIsHeardAfterNoise }
+    ensures stops_after_noise { OneOfThreeStopsIsEnoughAfterNoise }
 {}

@@ -79,8 +79,8 @@ fn take_own_turn(turns: &mut [Turns])
     }
 }
 
-/// Updates the turns of packet `own` with each rival. The next packet of the block has the number
-/// `number`.
+/// Updates the turns of packet `own` with each rival after the next packet of the block. `own` and
+/// `number` are numbers of different packets of a block, and the next packet is packet `number`.
 pub fn take_turn(turns: &mut [Turns], own: usize, number: usize)
     requires { (rival : ℕ) (d : Turns) → rival < length turns.old
         → (slice_index_or turns.old rival d).count < 2 ^ 64 - 1 }

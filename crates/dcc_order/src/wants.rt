@@ -2,7 +2,8 @@
 
 use crate::verdict::Verdict;
 
-/// The list that must give its next packet or its end, or the verdict.
+/// The next request of a comparer: an item of the first list, an item of the second list, or nothing,
+/// since it has the verdict. An item is the next packet of a list or the end of the list.
 #[derive(Clone, Copy, Debug, PartialEq, Eq)]
 pub enum Wants {
     /// The first list must give its next packet or its end.

@@ -24,7 +24,7 @@ use Rattle.dcc_regs.specs.Heard.{is_sent_to}
 use Rattle.dcc_regs.specs.Board.{board_registers, made}
 use Rattle.dcc_regs.specs.Loco.{loco_registers, start_content}
 use Rattle.dcc_regs.specs.Result.{result}
-use Rattle.dcc_regs.specs.Safety.{is_stop_packet, can_move, can_have_step}
+use Rattle.dcc_regs.specs.Safety.{is_standing, is_stop_packet, can_move, can_have_step}
 
 abbrev short_3 : Address
 short_3 = Short (record { number = 3; in_range = (omega arith, omega arith) })
@@ -271,3 +271,13 @@ rows = record {
   to_long_3 = refl;
   idle_is_for_none = refl;
 }
+
+-- a decoder without a speed does not stand, and neither does a locomotive with a step
+no_speed_is_no_stop : is_standing None ≡ false
+no_speed_is_no_stop = refl
+
+emergency_stop_stands : is_standing (Some (SpeedValue Emergency)) ≡ true
+emergency_stop_stands = refl
+
+step_does_not_stand : is_standing (Some (SpeedValue (Step28 1))) ≡ false
+step_does_not_stand = refl

@@ -16,6 +16,7 @@ pub mod LeftByOne
 pub mod LeftToldRight
 pub mod StationRuns
 pub mod WaitingLemmas
+pub mod LaterStops
 pub mod Standing
 pub mod StopEffects
 pub mod StopsObeyed

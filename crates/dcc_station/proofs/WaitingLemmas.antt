@@ -30,21 +30,21 @@ use Rattle.dcc_station.specs.WaitingTimes.{SentPacketsTakeFewMicroseconds}
 use Rattle.dcc_station.proofs.StopsObeyed.{no_stop_waits, represent_obey}
 
 -- fewer copies of the first packet were sent than it has
-abbrev Unfinished : ℕ → ℕ → List Packet → Type 0
+abbrev pub Unfinished : ℕ → ℕ → List Packet → Type 0
 Unfinished repeats sent [] = sent ≡ 0
 Unfinished repeats sent (p ∷ later) = sent < copies repeats p
 
-abbrev Counted : Sending → Type 0
+abbrev pub Counted : Sending → Type 0
 Counted s = (0 < s.repeats) × Unfinished s.repeats s.sent (outgoing s)
 
-some_copies : (repeats : ℕ) (p : Packet) → 0 < repeats → 0 < copies repeats p
+pub some_copies : (repeats : ℕ) (p : Packet) → 0 < repeats → 0 < copies repeats p
 some_copies repeats p some = by_kind (is_own_write p)
   where
     by_kind : (w : Bool) → 0 < cond w (repeats + 1) repeats
     by_kind true = omega (arith, some)
     by_kind false = some
 
-few_copies : (repeats : ℕ) (p : Packet) → copies repeats p ≤ repeats + 1
+pub few_copies : (repeats : ℕ) (p : Packet) → copies repeats p ≤ repeats + 1
 few_copies repeats p = by_kind (is_own_write p)
   where
     by_kind : (w : Bool) → cond w (repeats + 1) repeats ≤ repeats + 1
@@ -60,13 +60,13 @@ unfinished-none : (repeats : ℕ) (waiting : List Packet) → 0 < repeats → Un
 unfinished-none repeats [] some = refl
 unfinished-none repeats (p ∷ later) some = some_copies repeats p some
 
-drop_one : (c sent : ℕ) (x : Packet) (l : List Packet) → sent < c
+pub drop_one : (c sent : ℕ) (x : Packet) (l : List Packet) → sent < c
     → drop sent (replicate c x ++ l) ≡ x ∷ drop (suc sent) (replicate c x ++ l)
 drop_one zero sent x l less = absurd (omega (arith, less))
 drop_one (suc c) zero x l less = refl
 drop_one (suc c) (suc sent) x l less = drop_one c sent x l (omega (arith, less))
 
-drop_all : (c : ℕ) (x : Packet) (l : List Packet) → drop c (replicate c x ++ l) ≡ l
+pub drop_all : (c : ℕ) (x : Packet) (l : List Packet) → drop c (replicate c x ++ l) ≡ l
 drop_all zero x l = refl
 drop_all (suc c) x l = drop_all c x l
 
@@ -80,7 +80,7 @@ line_more : (stopping : Bool) (waiting : List Packet) (p : Packet)
 line_more true waiting p = refl
 line_more false waiting p = refl
 
-counted_more : (s : Sending) (p : Packet) → Counted s → Counted (with_command s p)
+pub counted_more : (s : Sending) (p : Packet) → Counted s → Counted (with_command s p)
 counted_more s p counted = (
   counted.0,
   subst (Unfinished s.repeats s.sent) (line_more s.stopping s.waiting p)
@@ -169,7 +169,7 @@ run_in_turn _ _ _ (forgets_one s new packets to run) before later p counted is l
     run_in_turn (forgotten s to) new packets run before later p counted is less
 
 -- one more packet keeps the count
-counted_next : (line entries : List Packet) (s new : Sending) (out : Packet)
+pub counted_next : (line entries : List Packet) (s new : Sending) (out : Packet)
     → 0 < s.repeats → Unfinished s.repeats s.sent line → outgoing s ≡ line → HandsOut line entries s out new
     → Counted new
 counted_next [] [] s new out some fewer all next = rw next.1 (some, subst (Unfinished s.repeats s.sent) (sym all) fewer)
@@ -186,7 +186,7 @@ counted_next (p ∷ rest) entries s new out some fewer all next = rw next.1.2
         let fewer_still : s.sent + 1 < copies s.repeats p = grind (arith, nat_tests, more) in
         (some, subst (Unfinished s.repeats (s.sent + 1)) (sym all) fewer_still)
 
-counted_obeyed : (s : Sending) (commands packets : List Packet) → StationObeys s commands packets → Counted s
+pub counted_obeyed : (s : Sending) (commands packets : List Packet) → StationObeys s commands packets → Counted s
 counted_obeyed _ _ _ (made queue slots repeats some) = (some, refl)
 counted_obeyed _ _ _ (accepts old before packets p from sendable room) =
     counted_more old p (counted_obeyed old before packets from)
@@ -210,7 +210,7 @@ in_turn s new commands gone before later packets p from is run less =
     run_in_turn s new packets run before later p (counted_always s commands gone from)
     (no_stop_waits s commands gone from ∙ is) less
 
-all_few : (repeats : ℕ) (l : List Packet) → length (all_copies repeats l) ≤ length l * (repeats + 1)
+pub all_few : (repeats : ℕ) (l : List Packet) → length (all_copies repeats l) ≤ length l * (repeats + 1)
 all_few repeats [] = omega arith
 all_few repeats (p ∷ later) =
     let more = all_few repeats later in let few = few_copies repeats p in
@@ -235,18 +235,18 @@ few_packets s new commands gone packets p from run less =
     (subst (λ l. length (copies_left s l) < length packets) (sym none) (omega (arith, few, less))) in
     (rest.0, subst (λ l. packets ≡ copies_left s l ++ p ∷ rest.0) none rest.1, few)
 
-one_more_line : (stopping : Bool) (waiting : List Packet) → length (with_stop stopping waiting) ≤ length waiting + 1
-one_more_line true waiting = omega arith
-one_more_line false waiting = omega arith
-
-wider : (n a b c : ℕ) → n ≤ a * c → a ≤ b → n ≤ b * c
-wider n a b c less more = grind arith
+line_few : (repeats : ℕ) (stopping : Bool) (waiting : List Packet)
+    → length (all_copies repeats (with_stop stopping waiting)) ≤ length waiting * (repeats + 1) + repeats
+line_few repeats true waiting =
+    let few = all_few repeats waiting in
+    rw (length-append, length-replicate) (grind (arith, few))
+line_few repeats false waiting = let few = all_few repeats waiting in grind (arith, few)
 
 pub few_packets_with_stops : CommandsWaitForFewPacketsAfterStops
 few_packets_with_stops s new commands gone packets p from run less =
-    let few : length (copies_left s (outgoing s)) ≤ (length s.waiting + 1) * (s.repeats + 1) =
-    wider _ (length (outgoing s)) (length s.waiting + 1) (s.repeats + 1) (left_few s (outgoing s))
-    (one_more_line s.stopping s.waiting) in
+    let line = line_few s.repeats s.stopping s.waiting in
+    let few : length (copies_left s (outgoing s)) ≤ length s.waiting * (s.repeats + 1) + s.repeats =
+    rw length-drop (omega (arith, line)) in
     let rest = behind_all s new packets p (counted_obeyed s commands gone from) run (omega (arith, few, less)) in
     (rest.0, rest.1, few)
 

@@ -7,5 +7,6 @@ pub mod WaitingTimes
 pub mod FaultNumbers
 pub mod States
 pub mod Stops
+pub mod LaterStops
 pub mod Rings
 pub mod Inner

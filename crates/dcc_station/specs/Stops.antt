@@ -1,7 +1,7 @@
 -- Stops of all locomotives: the list of accepted commands of a station that was stopped, and
 -- theorems on the packets after a stop.
 use Rattle.std.specs.Prelude.{ℕ, ◌≡◌, ◌<◌, ◌≤◌, ◌+◌, ◌*◌, Bool, true, false, Option, List, [], ◌∷◌, ◌++◌}
-use Rattle.std.specs.Prelude.{length, filter, is_some}
+use Rattle.std.specs.Prelude.{length, filter, is_some, ◌&&◌, None}
 use Rattle.std.proofs.Common.{suc}
 use Rattle.std.specs.List.{list_any}
 use Rattle.dcc_packet.specs.declared.address.Address.{Address}
@@ -9,9 +9,12 @@ use Rattle.dcc_packet.specs.declared.address.Address.TheVariants.{Broadcast}
 use Rattle.dcc_packet.specs.declared.packet.Packet.{Packet}
 use Rattle.dcc_regs.specs.declared.register.Who.{Who}
 use Rattle.dcc_regs.specs.declared.register.Who.TheVariants.{Loco}
-use Rattle.dcc_regs.specs.declared.register.Register.TheVariants.{Speed as SpeedRegister}
+use Rattle.dcc_regs.specs.declared.register.Register.TheVariants.{Speed as SpeedRegister, Direction}
+use Rattle.dcc_regs.specs.declared.register.SpeedMode.{SpeedMode}
 use Rattle.dcc_regs.specs.Result.{RegisterMap, result}
 use Rattle.dcc_regs.specs.Safety.{can_move, is_standing}
+use Rattle.dcc_regs.specs.Heard.{hears}
+use Rattle.dcc_regs.specs.Sets.{sets}
 use Rattle.dcc_station.specs.Commands.{is_sendable}
 use Rattle.dcc_station.specs.Refresh.{StationRepresents, LeaveTheSameButPending, intended}
 use Rattle.dcc_station.specs.Sending.{Sending, idle_sending, with_command, forgotten, Next}
@@ -91,33 +94,38 @@ PacketsAreSentInTurn =
 
 -- a station that obeys its commands and stops accepts the command `p`. The next packets are the
 -- remaining copies of the stop and of the commands that waited before `p`, and then the first copy
--- of `p`. If `w` commands waited, there are at most `(w + 1) * (repeats + 1)` remaining copies.
+-- of `p`. If `w` commands waited, there are at most `w * (repeats + 1) + repeats` remaining copies.
 abbrev pub CommandsWaitForFewPacketsAfterStops : Type 0
 CommandsWaitForFewPacketsAfterStops =
     (s new : Sending) (commands returned packets : List Packet) (p : Packet) → StationObeys s commands returned
-    → RunsTo (with_command s p) packets new → (length s.waiting + 1) * (s.repeats + 1) < length packets
+    → RunsTo (with_command s p) packets new → length s.waiting * (s.repeats + 1) + s.repeats < length packets
     → (rest : List Packet) × (packets ≡ copies_left s (outgoing s) ++ p ∷ rest)
-    × (length (copies_left s (outgoing s)) ≤ (length s.waiting + 1) * (s.repeats + 1))
+    × (length (copies_left s (outgoing s)) ≤ length s.waiting * (s.repeats + 1) + s.repeats)
 
 -- a station in state `s` returns the packets of a list, one after the other, and goes to state
--- `new`. The station can accept commands that set the speed of no locomotive to a step. It can also
--- forget entries and be stopped, before, between and after these packets.
-pub data RunsWithoutSteps : Sending → List Packet → Sending → Type 0 where
-  stays : (s : Sending) → RunsWithoutSteps s [] s
-  accepts_one : (s new : Sending) (packets : List Packet) (p : Packet) → can_move p ≡ false
-      → RunsWithoutSteps (with_command s p) packets new → RunsWithoutSteps s packets new
+-- `new`. Before, between and after these packets it can accept commands for which `moves` is false,
+-- forget entries and be stopped.
+pub data RunsWithout (moves : Packet → Bool) : Sending → List Packet → Sending → Type 0 where
+  stays : (s : Sending) → RunsWithout moves s [] s
+  accepts_one : (s new : Sending) (packets : List Packet) (p : Packet) → moves p ≡ false
+      → RunsWithout moves (with_command s p) packets new → RunsWithout moves s packets new
   returns_one : (s between new : Sending) (p : Packet) (packets : List Packet) → Next s p between
-      → RunsWithoutSteps between packets new → RunsWithoutSteps s (p ∷ packets) new
+      → RunsWithout moves between packets new → RunsWithout moves s (p ∷ packets) new
   forgets_one : (s new : Sending) (packets : List Packet) (to : Address)
-      → RunsWithoutSteps (forgotten s to) packets new → RunsWithoutSteps s packets new
-  stops_one : (s new : Sending) (packets : List Packet) → RunsWithoutSteps (stopped s) packets new
-      → RunsWithoutSteps s packets new
+      → RunsWithout moves (forgotten s to) packets new → RunsWithout moves s packets new
+  stops_one : (s new : Sending) (packets : List Packet) → RunsWithout moves (stopped s) packets new
+      → RunsWithout moves s packets new
 
--- after a stop, until the station accepts a command that sets a speed to a step: the first packet
--- is the stop, and no packet sets the speed of a locomotive to a step
+-- true if the packet `p` sets the speed of a locomotive with the active address `active` to a step
+abbrev pub moves_loco : Option Address → Packet → Bool
+moves_loco active p = hears (Loco active) p && can_move p
+
+-- let a station be stopped, and then accept no command that sets a speed to a step: its first packet
+-- is then the stop, and none of its packets sets the speed of a locomotive to a step
 abbrev pub NoStepAfterStops : Type 0
 NoStepAfterStops =
-    (s new : Sending) (first : Packet) (packets : List Packet) → RunsWithoutSteps (stopped s) (first ∷ packets) new
+    (s new : Sending) (first : Packet) (packets : List Packet)
+    → RunsWithout can_move (stopped s) (first ∷ packets) new
     → (first ≡ stop_packet) × (list_any can_move (first ∷ packets) ≡ false)
 
 -- let a station be stopped after the packets `before`, return at least one packet, and accept no
@@ -126,33 +134,48 @@ NoStepAfterStops =
 abbrev pub LocosStandAfterStops : Type 0
 LocosStandAfterStops =
     (s new : Sending) (before packets : List Packet) (active : Option Address) (start : RegisterMap)
-    → RunsWithoutSteps (stopped s) packets new → 0 < length packets → is_some (start SpeedRegister) ≡ true
+    → RunsWithout can_move (stopped s) packets new → 0 < length packets → is_some (start SpeedRegister) ≡ true
     → is_standing (result (Loco active) start (before ++ packets) SpeedRegister) ≡ true
 
--- let `RunsWithoutSteps` hold for `packets`. If the station then returns the packet `p`, it holds
+-- a stop does not set the direction of a locomotive, in any speed mode
+abbrev pub StopsLeaveDirections : Type 0
+StopsLeaveDirections = (mode : SpeedMode) → sets mode stop_packet Direction ≡ None
+
+-- let `RunsWithout moves` hold for `packets`. If the station then returns the packet `p`, it holds
 -- for `packets` followed by `p`.
 abbrev pub StandingGoesOnByPackets : Type 0
 StandingGoesOnByPackets =
-    (s between new : Sending) (packets : List Packet) (p : Packet) → RunsWithoutSteps s packets between
-    → Next between p new → RunsWithoutSteps s (packets ++ p ∷ []) new
+    (moves : Packet → Bool) (s between new : Sending) (packets : List Packet) (p : Packet)
+    → RunsWithout moves s packets between
+    → Next between p new → RunsWithout moves s (packets ++ p ∷ []) new
 
--- let `RunsWithoutSteps` hold for `packets`. If the station then accepts a command `p` that sets
--- the speed of no locomotive to a step, it still holds for `packets`.
+-- let `RunsWithout moves` hold for `packets`. If the station then accepts a command `p` for which
+-- `moves` is false, it still holds for `packets`.
 abbrev pub StandingGoesOnByCommands : Type 0
 StandingGoesOnByCommands =
-    (s between : Sending) (packets : List Packet) (p : Packet) → RunsWithoutSteps s packets between
-    → can_move p ≡ false → RunsWithoutSteps s packets (with_command between p)
+    (moves : Packet → Bool) (s between : Sending) (packets : List Packet) (p : Packet)
+    → RunsWithout moves s packets between → moves p ≡ false
+    → RunsWithout moves s packets (with_command between p)
 
--- let `RunsWithoutSteps` hold for `packets`. If the station then forgets its entries with the
+-- let `RunsWithout moves` hold for `packets`. If the station then forgets its entries with the
 -- address `to`, it still holds for `packets`.
 abbrev pub StandingGoesOnByForgetting : Type 0
 StandingGoesOnByForgetting =
-    (s between : Sending) (packets : List Packet) (to : Address) → RunsWithoutSteps s packets between
-    → RunsWithoutSteps s packets (forgotten between to)
+    (moves : Packet → Bool) (s between : Sending) (packets : List Packet) (to : Address)
+    → RunsWithout moves s packets between → RunsWithout moves s packets (forgotten between to)
 
--- let `RunsWithoutSteps` hold for `packets`. If the station is then stopped, it still holds for
+-- let `RunsWithout moves` hold for `packets`. If the station is then stopped, it still holds for
 -- `packets`.
 abbrev pub StandingGoesOnByStops : Type 0
 StandingGoesOnByStops =
-    (s between : Sending) (packets : List Packet) → RunsWithoutSteps s packets between
-    → RunsWithoutSteps s packets (stopped between)
+    (moves : Packet → Bool) (s between : Sending) (packets : List Packet) → RunsWithout moves s packets between
+    → RunsWithout moves s packets (stopped between)
+
+-- after a stop, a locomotive with the active address `active` stands until the station accepts a
+-- command that it hears and that sets a speed to a step
+abbrev pub LocoStandsUntilItsOwnStep : Type 0
+LocoStandsUntilItsOwnStep =
+    (s new : Sending) (before packets : List Packet) (active : Option Address) (start : RegisterMap)
+    → RunsWithout (moves_loco active) (stopped s) packets new → 0 < length packets
+    → is_some (start SpeedRegister) ≡ true
+    → is_standing (result (Loco active) start (before ++ packets) SpeedRegister) ≡ true

@@ -6,12 +6,14 @@ ghost use Rattle.dcc_station.specs.Refresh.{OneMoreAccepted};
 ghost use Rattle.dcc_station.specs.Refresh.{OneMoreHandedOut, RefreshIsTransparent};
 ghost use Rattle.dcc_station.specs.Refresh.{TransparentWhereNothingWaits, WaitingIsSuffix};
 ghost use Rattle.dcc_station.specs.States.{StatesAreNoEntries, StatesConflictWithNoEntry};
-ghost use Rattle.dcc_station.specs.Stops.{BroadcastsAreNoEntries, LocosStandAfterStops};
+ghost use Rattle.dcc_station.specs.Stops.{BroadcastsAreNoEntries, LocosStandAfterStops, LocoStandsUntilItsOwnStep};
 ghost use Rattle.dcc_station.specs.Stops.{CommandsWaitForFewPacketsAfterStops, PacketsAreSentInTurn};
+ghost use Rattle.dcc_station.specs.LaterStops.{CommandsWaitWithLaterStops};
 ghost use Rattle.dcc_station.specs.Stops.{NoStepAfterStops, NoStopWaitsUnasked};
 ghost use Rattle.dcc_station.specs.Stops.{StandingGoesOnByCommands, StandingGoesOnByForgetting};
 ghost use Rattle.dcc_station.specs.Stops.{StandingGoesOnByPackets, StandingGoesOnByStops};
-ghost use Rattle.dcc_station.specs.Stops.{StationsThatRepresentObey, StopsAreTransparent, OutgoingIsSuffix};
+ghost use Rattle.dcc_station.specs.Stops.{StationsThatRepresentObey, StopsAreTransparent, StopsLeaveDirections};
+ghost use Rattle.dcc_station.specs.Stops.{OutgoingIsSuffix};
 ghost use Rattle.dcc_station.specs.WaitingTimes.{CommandsAreSentInMicroseconds, CommandsAreSentInTime};
 ghost use Rattle.dcc_station.specs.WaitingTimes.{CommandsAreSentInTurn, CommandsWaitForFewPackets};
 ghost use Rattle.dcc_station.specs.WaitingTimes.{ReturnedPacketsAreRuns, RunsGoOnByCommands};
@@ -60,19 +62,20 @@ pub fn runs_go_on()
     ensures forgotten { RunsGoOnByForgetting }
 {}
 
-/// Theorem: let a station never have been stopped. Its next packets are the remaining copies of the
-/// first commands of the queue, and then a copy of the next command. So the number of packets
-/// before the first copy of a command is the number of remaining copies of the commands before it.
-/// Commands that the station accepts later do not change this number. The theorem is about the
-/// states and steps of `Sending`. `Station`, `FixedStation` and the station in C all have these
-/// states and steps. The theorem [`commands_are_sent_after_stops`] is about stations that were
-/// stopped.
+/// Theorem: let a station not be stopped, neither earlier nor before the first copy of a command. Its
+/// next packets are the remaining copies of the first commands of the queue, and then a copy of the
+/// next command. So the number of packets before the first copy of a command is the number of
+/// remaining copies of the commands before it. Commands that the station accepts later do not change
+/// this number. The theorem is about the states and steps of `Sending`. `Station`, `FixedStation` and
+/// the station in C all have these states and steps. The theorem [`commands_are_sent_after_stops`] is
+/// about stations that were stopped.
 pub fn commands_are_sent_in_turn()
     ensures { CommandsAreSentInTurn }
 {}
 
-/// Theorem: let a station never have been stopped. If `k` commands wait when the station accepts a
-/// command, the first copy of this command follows after at most `n = k * (repeats + 1)` packets.
+/// Theorem: let a station not be stopped, neither earlier nor before the first copy of a command. If
+/// `k` commands wait when the station accepts this command, its first copy follows after at most
+/// `n = k * (repeats + 1)` packets.
 /// Let `preamble` be the number of ones before each packet. Then the first copy is complete within
 /// `(n + 1) * 2 * (preamble + 55)` half-bits, counted from the end of the last packet that the
 /// station returned before it accepted the command. The clause `microseconds` bounds this time by
@@ -132,12 +135,22 @@ pub fn stations_are_heard()
 pub fn locos_stand_after_stops()
     ensures packets { NoStepAfterStops }
     ensures stand { LocosStandAfterStops }
+    // The stop leaves the direction of each locomotive.
+    ensures directions { StopsLeaveDirections }
 {}
 
-/// Theorem: the relation `RunsWithoutSteps` holds for the packets that a station returns, as long
-/// as it accepts no command that sets the speed of a locomotive to a step. The clauses are about
-/// one more packet, one more command, forgotten entries and a stop. A caller with its own loop uses
-/// this theorem as the premise of [`locos_stand_after_stops`].
+/// Theorem: after [`stop`](crate::StationOver::stop), a locomotive decoder that hears the packets of
+/// the station stands until the station accepts a command that this decoder hears and that sets a
+/// speed to a step. So an operator can start one locomotive, and the others stand. The decoder keeps
+/// its address. The station can accept other commands, forget entries and be stopped again.
+pub fn loco_stands_until_its_own_step()
+    ensures { LocoStandsUntilItsOwnStep }
+{}
+
+/// Theorem: the relation `RunsWithout moves` holds for the packets that a station returns, as long
+/// as it accepts no command for which `moves` is true. The clauses are about one more packet, one more
+/// command, forgotten entries and a stop. A caller with its own loop uses this theorem as the premise
+/// of [`locos_stand_after_stops`] and [`loco_stands_until_its_own_step`].
 pub fn standing_goes_on()
     ensures handed_out { StandingGoesOnByPackets }
     ensures accepted { StandingGoesOnByCommands }
@@ -154,13 +167,23 @@ pub fn stops_are_transparent()
     ensures suffix { OutgoingIsSuffix }
 {}
 
-/// Theorem: let a station be stopped any number of times. Its next packets are the remaining copies
-/// of the stop and of the first commands of the queue, and then a copy of the next command. If `k`
-/// commands wait when the station accepts a command, the first copy of this command follows after
-/// at most `(k + 1) * (repeats + 1)` packets.
+/// Theorem: let a station be stopped any number of times before it accepts a command, and not again
+/// before the first copy of this command. Its next packets are the remaining copies of the stop and
+/// of the first commands of the queue, and then a copy of the next command. If `k` commands wait when
+/// the station accepts a command, the first copy of this command follows after at most
+/// `k * (repeats + 1) + repeats` packets.
 pub fn commands_are_sent_after_stops()
     ensures in_turn { PacketsAreSentInTurn }
     ensures packets { CommandsWaitForFewPacketsAfterStops }
+{}
+
+/// Theorem: let a station accept a command that sets no speed to a step, and let the station then be
+/// stopped. A stop withdraws no such command. If `k` commands wait when the station accepts the command,
+/// and the station is stopped `j` times before the first copy, the command is sent after at most
+/// `k * (repeats + 1) + 2 * j * repeats` packets. The number is `j * repeats` if `k` is 0, and it is
+/// `repeats` more if a stop waits when the station accepts the command.
+pub fn commands_are_sent_between_stops()
+    ensures { CommandsWaitWithLaterStops }
 {}
 
 /// Theorem: the relation `StationObeys`, about stations that can have been stopped, holds for each

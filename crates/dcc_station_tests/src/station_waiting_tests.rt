@@ -206,3 +206,52 @@ fn rounds(
     }
     (at_once, after_many)
 }
+
+/// Lets a station accept `ahead` own writes and a tested write, and stops it `stops` times, each time
+/// when the station has sent all copies of the last stop and `repeats` copies of the first write.
+/// Returns the number of packets before the first copy of the tested write.
+fn wait_between_stops(rt: &impl Abort, alloc: Global, repeats: u8, ahead: u8, stops: u32) -> u32 {
+    let mut station = Station::new(alloc, 12, 6, repeats).expect(rt, "a station");
+    for number in 0..ahead {
+        let to = Address::short(number.saturating_add(1)).expect(rt, "an address");
+        accepts(rt, &mut station, write(rt, to, 3, 7));
+    }
+    let to = Address::short(100).expect(rt, "an address");
+    let tested = write(rt, to, 3, 7);
+    accepts(rt, &mut station, tested);
+    let wasted = if ahead > 0 { u32::from(repeats) } else { 0 };
+    let mut before = 0u32;
+    for _ in 0..stops {
+        for _ in 0..wasted {
+            send_one(&mut station);
+        }
+        station.stop();
+        for _ in 0..repeats {
+            send_one(&mut station);
+        }
+        before = before
+            .saturating_add(wasted)
+            .saturating_add(u32::from(repeats));
+    }
+    for _ in 0..200u32 {
+        if station.next().is(&tested) {
+            return before;
+        }
+        before = before.saturating_add(1);
+    }
+    before
+}
+
+#[test]
+fn stops_can_cost_the_longest_wait(rt: HostRuntime) {
+    for ahead in 0..5u8 {
+        for repeats in 1..5u8 {
+            for stops in 0..5u32 {
+                let before = wait_between_stops(&rt, rt.alloc(), repeats, ahead, stops);
+                let one_stop = if ahead > 0 { 2 } else { 1 } * u32::from(repeats);
+                let most = u32::from(ahead) * (u32::from(repeats) + 1) + stops * one_stop;
+                check_at(&rt, before == most, before);
+            }
+        }
+    }
+}

@@ -240,9 +240,3 @@ module _ (halves : List ℕ) (us n at : ℕ) (shown : Seen) (some : 1 ≤ at) (w
       (ends_here (halves ++ replicate n us) (halves ++ replicate at us) (replicate (n - at) us) (length halves + at - 1)
       shown whole last
       ∙ ap (end_among (bits_shown shown)) (sum_run halves at us ∙ sym is))
-
-pub time_run : (halves : List ℕ) (n us time count one : ℕ) → time ≡ sum halves → count ≡ n → one ≡ us
-    → time + count * one ≡ sum (halves ++ replicate n us)
-time_run halves n us time count one is all each =
-    ap (λ k. k + count * one) is ∙ ap (λ k. sum halves + k * one) all ∙ ap (λ k. sum halves + n * k) each
-    ∙ sym (sum_run halves n us)

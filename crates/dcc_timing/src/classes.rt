@@ -60,17 +60,6 @@ impl Classes {
         }
     }
 
-    /// Adds `n` half-bits of `us` microseconds. The number `n` can be 0.
-    pub(crate) fn add_run(&mut self, us: u16, n: u32)
-        requires { classes_count self.old + n < 2 ^ 40 }
-        ensures classes { (halves : List ℕ) → AreClasses self.old halves
-            → AreClasses self.new (halves ++ replicate n us) }
-        ensures count { classes_count self.new ≡ classes_count self.old + n }
-    {
-        if n > 0 {
-            self.add(us, n);
-        }
-    }
     /// Adds the half-bits `halves`.
     pub(crate) fn add_all(&mut self, halves: &[u16])
         requires { classes_count self.old + length halves.now < 2 ^ 40 }

@@ -21,4 +21,4 @@ pub use classes::Classes;
 pub use outcomes::Outcomes;
 pub use recent::LastNumbers;
 pub use tally::{Mean, Tally};
-pub use timings::{Timings, push_framer};
+pub use timings::Timings;

@@ -12,7 +12,7 @@ use crate::classes::Classes;
 use crate::outcomes::Outcomes;
 use crate::packets::Packets;
 use crate::recent::LastNumbers;
-use dcc_wire::{Framer, KeptFramer, Seen};
+use dcc_wire::{KeptFramer, Seen};
 
 /// The statistics of a list of half-bits, which show how near a track is to the limits of NMRA
 /// S-9.1.
@@ -46,7 +46,6 @@ impl Timings {
     ghost use Rattle.dcc_wire.specs.Framing.{Hunting, StandsFor, is_hunting, report_at, rest, seen};
     ghost use Rattle.dcc_wire.specs.declared.half.Half.TheVariants.{One};
     ghost use Rattle.dcc_wire.specs.Half.{class_of};
-    ghost use Rattle.dcc_wire.specs.Runs.{still_ones};
     ghost use Rattle.dcc_timing.specs.Numbers.{keep_last};
     ghost use Rattle.dcc_timing.specs.Classes.{AreClasses};
     ghost use Rattle.dcc_timing.specs.Outcomes.{AreOutcomes};
@@ -65,7 +64,7 @@ impl Timings {
             classes: Classes::new(),
             outcomes: Outcomes::new(),
             packets: Packets::new(),
-            framer: Framer::new().keep(),
+            framer: KeptFramer::new(),
             recent: LastNumbers::new(),
         }
     }
@@ -214,7 +213,7 @@ impl Timings {
         ensures something { result ≢ Seen.Nothing }
         ensures count { self.new.halves ≡ self.old.halves + 1 }
     {
-        let seen = push_apart(&mut self.framer, us);
+        let seen = self.framer.push_shown(us);
         count_half(
             &mut self.halves,
             &mut self.time,
@@ -236,59 +235,8 @@ impl Timings {
         self.classes = Classes::new();
         self.outcomes = Outcomes::new();
         self.packets = Packets::new();
-        self.framer = Framer::new().keep();
+        self.framer = KeptFramer::new();
         self.recent.clear();
-    }
-
-    /// Appends `n` half-bits of `us` microseconds to the list if these half-bits have no outcome and
-    /// do not change the state of the framer. Otherwise returns false, and nothing changes. The
-    /// longer list must have fewer than 2^32 half-bits.
-    ///
-    /// The time of a call does not depend on `n`.
-    pub fn pass_run(&mut self, us: u16, n: u32) -> bool
-        requires { self.old.halves + n < 2 ^ 32 }
-        // Some list has the old statistics.
-        ensures history { ∥ ((halves : List ℕ) × Measures self.old halves) ∥₁ }
-        // If a list has the old statistics, the list with these half-bits at its end has the new
-        // statistics.
-        ensures measures { IsTrue result → (halves : List ℕ) → Measures self.old halves
-            → Measures self.new (halves ++ replicate n us) }
-        ensures count { IsTrue result → self.new.halves ≡ self.old.halves + n }
-        ensures left { result ≡ false → self.new ≡ self.old }
-        ensures still { IsTrue result ↔ (kept_rest self.old.framer ≡ Hunting (still_ones (class_of us))) }
-    {
-        if !self.framer.stays(us) {
-            return false;
-        }
-        self.halves += n;
-        self.time += u64::from(n) * u64::from(us);
-        self.classes.add_run(us, n);
-        self.recent.take(us, n);
-        true
-    }
-
-    /// Appends `n` half-bits of `us` microseconds to the list. The longer list must have fewer than
-    /// 2^32 half-bits.
-    ///
-    /// The time of a call does not depend on `n`. The function takes at most as many half-bits one
-    /// by one as the longest packet has.
-    pub fn take(&mut self, us: u16, n: u32)
-        requires { self.old.halves + n < 2 ^ 32 }
-        // Some list has the old statistics.
-        ensures history { ∥ ((halves : List ℕ) × Measures self.old halves) ∥₁ }
-        // If a list has the old statistics, the list with these half-bits at its end has the new
-        // statistics.
-        ensures measures { (halves : List ℕ) → Measures self.old halves → Measures self.new (halves ++ replicate n us) }
-        ensures count { self.new.halves ≡ self.old.halves + n }
-    {
-        let mut taken = 0;
-        'run: while taken < n {
-            if self.pass_run(us, n - taken) {
-                return;
-            }
-            let _ = self.push(us);
-            taken += 1;
-        }
     }
 
     /// Returns the number of half-bits in the list.
@@ -458,36 +406,4 @@ fn take_ones(framer: &mut KeptFramer, halves: &[u16]) -> usize
         at += 1;
     }
     at
-}
-
-/// Takes a half-bit of `us` microseconds, with the contract of `KeptFramer::push`. Only few
-/// half-bits end an outcome, and a separate function takes them.
-#[tactic(auto, unfolding(dcc_wire::specs::Framing::report_at))]
-#[inline(always)]
-pub fn push_framer(framer: &mut KeptFramer, us: u16) -> Seen
-    ensures history { (durations : List ℕ) × StandsFor (kept_rest framer.old) durations }
-    ensures stands { (durations : List ℕ) → StandsFor (kept_rest framer.old) durations
-        → StandsFor (kept_rest framer.new) (durations ++ us ∷ []) }
-    ensures sees { (durations : List ℕ) → StandsFor (kept_rest framer.old) durations
-        → seen (durations ++ us ∷ []) ≡ seen durations ++ report_at (length durations) result }
-{
-    if framer.pass(us) {
-        return Seen::Nothing;
-    }
-    push_apart(framer, us)
-}
-
-/// Takes a half-bit of `us` microseconds, with the contract of `KeptFramer::push`.
-#[inline(never)]
-fn push_apart(framer: &mut KeptFramer, us: u16) -> Seen
-    ensures history { (durations : List ℕ) × StandsFor (kept_rest framer.old) durations }
-    ensures stands { (durations : List ℕ) → StandsFor (kept_rest framer.old) durations
-        → StandsFor (kept_rest framer.new) (durations ++ us ∷ []) }
-    ensures sees { (durations : List ℕ) → StandsFor (kept_rest framer.old) durations
-        → seen (durations ++ us ∷ []) ≡ seen durations ++ report_at (length durations) result }
-{
-    let mut inner = framer.framer();
-    let seen = inner.push(us);
-    *framer = inner.keep();
-    seen
 }

@@ -111,7 +111,7 @@ const SHOWN_PLAIN: &str = "\
     the outcome of a run that fits | plain | 58*28 100*2 70*5 |  | 35 1000 |  | 31 refused H1/
     the fourth write fails | plain | S 58x | 512 |  | 1 3 | 84_ | U5 write failed |  | U2 line 1: bad number
     no byte is taken | plain | S 58x | 512 |  | 0 100 |  | U5 write failed |  | U2 line 1: bad number
-    a wrong error byte | plain | B/I |  |  |  | 84 refused H5 036260/168 nothing to do/";
+    a wrong error byte | plain | B/I |  |  |  | 84 refused H5 036260/168 idle/";
 
 const TIMED: &str = "\
     at the first read | timing | S_ | 512 0 again |  |  |  | U4 read failed

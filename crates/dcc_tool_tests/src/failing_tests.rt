@@ -55,7 +55,7 @@ fn calls() -> [Played; 10] {
         (
             Call::ShowPlain,
             CAPTURE.as_bytes(),
-            b"84 locomotive 3: step 1 of 28, forward\n168 nothing to do\n252 refused H5 036260\n",
+            b"84 locomotive 3: step 1 of 28, forward\n168 idle\n252 refused H5 036260\n",
         ),
         (Call::Timing, CAPTURE.as_bytes(), FIGURES),
         (hex(None), LINES, b"036261\nff00ff\nc3e8ec1c06dd\n"),

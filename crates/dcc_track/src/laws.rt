@@ -17,7 +17,8 @@ pub fn main_only_is_plain()
     ensures { MainOnlyIsPlain }
 {}
 
-/// Theorem: let a decoder on both tracks be in service mode, and hear resets and service packets.
+/// Theorem: let a decoder that can hear both tracks be in service mode, and hear resets and service
+/// packets.
 /// Its service part, its CVs and its acknowledgements are then those of a
 /// [`ServiceDecoder`](dcc_service::ServiceDecoder) that gets these frames. Service mode can begin
 /// with the first of the frames, if this frame is a reset.

@@ -89,7 +89,7 @@ impl<D: Programmable> TrackDecoder<D> {
     /// [`end_service`](TrackDecoder::end_service) ends it. If `main_only` is false, the decoder can
     /// hear both tracks.
     ///
-    /// On the main track, frames for the short addresses 112 to 127 look like service packets. After
+    /// On the main track, frames for the short addresses 116 to 127 look like service packets. After
     /// a reset, two copies of `7c3f85c6`, a speed packet for the address 124, would write CV64 of each
     /// decoder on the track that can enter service mode.
     pub fn set_main_only(&mut self, main_only: bool)

@@ -1,6 +1,6 @@
 -- What the parsers return for the bytes of an input, and the kind of the input.
 use Rattle.std.proofs.Common.{◌≡◌, ℕ, ◌*◌, List, nat_lt, length, Option, None, Some, Ok, Err, refl, sym}
-use Rattle.std.proofs.Common.{subst, IfSome}
+use Rattle.std.proofs.Common.{subst, IfSome, inl, inr}
 use Rattle.std.specs.List.{filter}
 use Rattle.dcc_lost.specs.declared.figures.TrackFigures.{TrackFigures}
 use Rattle.dcc_lost.specs.MeasuresTrack.{MeasuresTrack}
@@ -9,7 +9,10 @@ use Rattle.dcc_io.specs.declared.fault.KeptFault.{KeptFault}
 use Rattle.dcc_io.specs.declared.fault.KeptFault.TheVariants.{Line, Number, TooMuch}
 use Rattle.dcc_io.specs.InputState.{InputState}
 use Rattle.dcc_capture.specs.Capture.{capture_in}
+use Rattle.dcc_listen.specs.GatheredBoth.{GatheredBoth, ReadsBothUpTo, StopsBothAt, both_in}
 use Rattle.dcc_listen.specs.Timed.{MeasuresCapture, StopsTiming}
+use Rattle.dcc_packet.specs.declared.packet.Packet.{Packet}
+use Rattle.std.proofs.lemmas.Option.{none-some}
 use Rattle.dcc_packet.specs.declared.fault.PacketFault.{PacketFault}
 use Rattle.dcc_io.specs.Items.{Gave, in_text, only_fault}
 use Rattle.dcc_io.specs.PacketLines.{Saying, lines_by}
@@ -21,7 +24,7 @@ use Rattle.dcc_saved.specs.TextRead.{Leads, ReadsValue, answer_at, answer_in}
 use Rattle.dcc_saved.specs.TextReader.{done}
 use Rattle.dcc_what.specs.declared.kind.Front.TheVariants as fronts
 use Rattle.dcc_what.specs.declared.kind.Kind.TheVariants as kinds
-use Rattle.dcc_what.specs.Kinds.{closed, text_kind, input_of_bytes}
+use Rattle.dcc_what.specs.Kinds.{closed, marked_kind, text_kind, input_of_bytes}
 
 -- the capture of an input that was read as a whole
 abbrev halves_in : List ℕ → List ℕ
@@ -41,11 +44,51 @@ pub kind_of_capture : (bytes : List ℕ) (halves above : ℕ) → fault_in bytes
     → kinds.Capture halves (nat_lt halves (2 * above)) ≡ text_kind bytes fronts.Halves
 kind_of_capture bytes halves above none is_halves is_above = rw (none, is_halves, is_above) refl
 
-pub kind_of_bad_capture : (bytes : List ℕ) (old new : InputState) (line : ℕ) → old ≡ input_of_bytes bytes
-    → StopsTiming old (Number line) new → kinds.BadCapture line ≡ text_kind bytes fronts.Halves
-kind_of_bad_capture bytes old new line is stops =
+-- the error of the two captures of an input that was read as a whole
+abbrev both_fault : List ℕ → Option KeptFault
+both_fault bytes = (both_in (input_of_bytes bytes) (closed bytes)).fault
+
+pub kind_of_marked_capture : (bytes : List ℕ) (old new : InputState) (line : ℕ) → old ≡ input_of_bytes bytes
+    → StopsTiming old (Number line) new → marked_kind line (both_fault bytes) ≡ text_kind bytes fronts.Halves
+kind_of_marked_capture bytes old new line is stops =
     let stopped = subst (λ (state : InputState). StopsTiming state (Number line) new) is stops in
     let fault : fault_in bytes ≡ Some (Number line) = stopped.reads.items.0.0 in
+    rw fault refl
+
+-- two captures that were read, and two captures with an error
+pub kind_of_two_captures : (bytes : List ℕ) (old new : InputState) (packets others : List Packet) (line : ℕ)
+    → old ≡ input_of_bytes bytes → GatheredBoth old packets others new
+    → kinds.TwoCaptures line ≡ marked_kind line (both_fault bytes)
+kind_of_two_captures bytes old new packets others line is gathered =
+    let both = subst (λ (state : InputState). GatheredBoth state packets others new) is gathered in
+    let none : both_fault bytes ≡ None = both.hold.none in
+    rw none refl
+
+both_stopped : (bytes : List ℕ) (old new : InputState) (fault : KeptFault) → old ≡ input_of_bytes bytes
+    → StopsBothAt old fault new → ReadsBothUpTo (input_of_bytes bytes) fault new
+both_stopped bytes old new fault is stops =
+    elim (subst (λ (state : InputState). StopsBothAt state fault new) is stops) [
+      | inl stored ↦ absurd (none-some fault stored.0)
+      | inr reads ↦ reads.2
+    ]
+
+pub kind_of_bad_captures : (bytes : List ℕ) (old new : InputState) (line bad : ℕ) → old ≡ input_of_bytes bytes
+    → StopsBothAt old (Number bad) new → kinds.BadCapture bad ≡ marked_kind line (both_fault bytes)
+kind_of_bad_captures bytes old new line bad is stops =
+    let fault : both_fault bytes ≡ Some (Number bad) = (both_stopped bytes old new (Number bad) is stops).1 in
+    rw fault refl
+
+pub kind_of_lacking_mark : (bytes : List ℕ) (old new : InputState) (line last : ℕ) (lacks : PacketFault)
+    → old ≡ input_of_bytes bytes → StopsBothAt old (Line last lacks) new
+    → kinds.TooLong ≡ marked_kind line (both_fault bytes)
+kind_of_lacking_mark bytes old new line last lacks is stops =
+    let fault : both_fault bytes ≡ Some (Line last lacks) = (both_stopped bytes old new (Line last lacks) is stops).1 in
+    rw fault refl
+
+pub kind_of_long_captures : (bytes : List ℕ) (old new : InputState) (line : ℕ) → old ≡ input_of_bytes bytes
+    → StopsBothAt old TooMuch new → kinds.TooLong ≡ marked_kind line (both_fault bytes)
+kind_of_long_captures bytes old new line is stops =
+    let fault : both_fault bytes ≡ Some TooMuch = (both_stopped bytes old new TooMuch is stops).1 in
     rw fault refl
 
 pub kind_of_long_capture : (bytes : List ℕ) (old new : InputState) → old ≡ input_of_bytes bytes

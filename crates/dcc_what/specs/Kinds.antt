@@ -10,8 +10,9 @@ use Rattle.dcc_io.specs.InputState.{InputState, fresh}
 use Rattle.dcc_io.specs.Items.{in_text}
 use Rattle.dcc_io.specs.PacketLines.{packet_lines}
 use Rattle.dcc_io.specs.StationLines.{station_lines}
-use Rattle.dcc_io.specs.Words.{run_of}
+use Rattle.dcc_io.specs.Words.{is_mark, run_of}
 use Rattle.dcc_capture.specs.Capture.{capture_in}
+use Rattle.dcc_listen.specs.GatheredBoth.{both_in}
 use Rattle.dcc_saved.specs.declared.saved.Saved.{Saved}
 use Rattle.dcc_saved.specs.DecoderText.{decoder_text}
 use Rattle.dcc_saved.specs.TextRead.{answer_in}
@@ -36,6 +37,10 @@ file_kind bytes =
 abbrev pub is_comma : ℕ → Bool
 is_comma byte = byte == 44
 
+-- true if `word` is the beginning of a capture: a run, or the mark `---` after an empty capture
+abbrev pub begins_capture : Word → Bool
+begins_capture word = is_run (run_of word) || is_mark word
+
 -- the kind of a text whose first line with a word is `line`. The second argument are the words of
 -- this line.
 abbrev pub front_kind : List ℕ → List Word → Front
@@ -43,7 +48,7 @@ front_kind line [] = fronts.Empty
 front_kind line (word ∷ more) =
     if list_any is_comma line then fronts.Commas
     else if begins_with word (codes "$") then fronts.Vcd
-    else if is_run (run_of word) then fronts.Halves
+    else if begins_capture word then fronts.Halves
     else if is_word word (codes "dcc-decoders") then fronts.Decoders else fronts.Lines
 
 -- the input with the bytes `bytes`, of which nothing was read, and the full limits
@@ -58,11 +63,19 @@ closed bytes = bytes ++ 10 ∷ []
 abbrev pub is_long : List ℕ → Bool
 is_long halves = nat_lt (length halves) (2 * length (filter is_above halves))
 
--- the kind of a capture with the half-bits `halves` and then the error `fault`
-abbrev pub capture_kind : List ℕ → Option KeptFault → Kind
-capture_kind halves None = kinds.Capture (length halves) (is_long halves)
-capture_kind halves (Some (kept.Number line)) = kinds.BadCapture line
-capture_kind halves (Some fault) = kinds.TooLong
+-- the kind of an input that is no capture, since line `line` has a wrong word. The second argument
+-- is the error of the two captures in the input, if `same_input` reads them.
+abbrev pub marked_kind : ℕ → Option KeptFault → Kind
+marked_kind line None = kinds.TwoCaptures line
+marked_kind line (Some (kept.Number bad)) = kinds.BadCapture bad
+marked_kind line (Some fault) = kinds.TooLong
+
+-- the kind of a capture with the half-bits `halves` and then the error `fault`. The third argument
+-- is the error of the two captures in the input, if `same_input` reads them.
+abbrev pub capture_kind : List ℕ → Option KeptFault → Option KeptFault → Kind
+capture_kind halves None both = kinds.Capture (length halves) (is_long halves)
+capture_kind halves (Some (kept.Number line)) both = marked_kind line both
+capture_kind halves (Some fault) both = kinds.TooLong
 
 -- the kind of a decoder text that has the decoders or the error `read`
 abbrev pub decoders_kind : Result (List Saved) KeptFault → Kind
@@ -84,7 +97,8 @@ text_kind bytes fronts.Empty = kinds.Empty
 text_kind bytes fronts.Commas = kinds.Commas
 text_kind bytes fronts.Vcd = kinds.Vcd
 text_kind bytes fronts.Halves =
-    let items = capture_in (input_of_bytes bytes) (closed bytes) in capture_kind items.said items.fault
+    let items = capture_in (input_of_bytes bytes) (closed bytes) in
+    capture_kind items.said items.fault (both_in (input_of_bytes bytes) (closed bytes)).fault
 text_kind bytes fronts.Decoders = decoders_kind (answer_in decoder_text (input_of_bytes bytes) (closed bytes))
 text_kind bytes fronts.Lines =
     lines_kind (in_text packet_lines (input_of_bytes bytes) (closed bytes)).fault

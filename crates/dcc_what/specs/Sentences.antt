@@ -7,7 +7,6 @@ use Rattle.hex.specs.Hex.{encode_lower}
 use Rattle.dcc_packet.specs.declared.fault.PacketFault.{PacketFault}
 use Rattle.dcc_packet.specs.Fault.{packet_fault_number}
 use Rattle.dcc_packet.specs.Words.{Word, words}
-use Rattle.dcc_io.specs.Words.{is_mark}
 use Rattle.dcc_what.specs.declared.kind.Kind.{Kind}
 use Rattle.dcc_what.specs.declared.kind.Kind.TheVariants as kinds
 use Rattle.dcc_what.specs.Lines.{first_bad, line_numbered, lines_of}
@@ -32,12 +31,15 @@ capture_sentence halves long =
     codes "a capture of " ++ decimal halves ++ codes " half-bits"
     ++ (if long then codes ", most of them above 10000 microseconds: are these nanoseconds?" else [])
 
+-- the sentence about two captures, with the word `---` on line `line`
+abbrev pub two_captures_sentence : ℕ → List ℕ
+two_captures_sentence line = codes "two captures, which `dcc same` compares, with --- on line " ++ decimal line
+
 -- the sentence about a capture whose line `line` has the word `bad` that is no run, with its place
 abbrev pub bad_word_sentence : ℕ → Option (ℕ × Word) → List ℕ
 bad_word_sentence line None = codes "a capture with a wrong word on line " ++ decimal line
 bad_word_sentence line (Some bad) =
-    if is_mark bad.1 then codes "two captures, which `dcc same` compares, with --- on line " ++ decimal line
-    else codes "a capture with a wrong word: line " ++ decimal line ++ codes ", word " ++ decimal bad.0 ++ codes ": "
+    codes "a capture with a wrong word: line " ++ decimal line ++ codes ", word " ++ decimal bad.0 ++ codes ": "
     ++ shown_word bad.1
 
 -- the text of the error `fault` on line `line`
@@ -55,6 +57,7 @@ sentence bytes kinds.Utf16 = codes "a text in UTF-16: save it as UTF-8 without a
 sentence bytes kinds.Vcd = codes "a VCD file: tools/to-capture makes a capture of it"
 sentence bytes kinds.Commas = codes "a text with commas, such as a CSV file: tools/to-capture makes a capture of it"
 sentence bytes (kinds.Capture halves long) = capture_sentence halves long
+sentence bytes (kinds.TwoCaptures line) = two_captures_sentence line
 sentence bytes (kinds.BadCapture line) =
     bad_word_sentence line (first_bad 1 (words (line_numbered line (lines_of bytes))))
 sentence bytes kinds.TooLong = codes "an input that exceeds a limit: 16777216 half-bits, 67108864 bytes, 64 decoders"

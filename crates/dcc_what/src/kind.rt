@@ -22,7 +22,10 @@ pub enum Kind {
     /// The input is a capture with this number of half-bits. `long` is true if more than half of the
     /// half-bits are longer than 10,000 microseconds.
     Capture { halves: u32, long: bool },
-    /// The input begins as a capture, and the line `line` has a word that is no run.
+    /// The input is two captures, and the line `line` between them has the word `---`.
+    TwoCaptures { line: u64 },
+    /// The input begins as a capture, and the line `line` has a wrong word: a word that is no run, or
+    /// a word `---` that does not separate two captures.
     BadCapture { line: u64 },
     /// The input has more half-bits, bytes or decoders than the limits allow.
     TooLong,
@@ -47,7 +50,7 @@ pub(crate) enum Front {
     Commas,
     /// The first word begins with `$`.
     Vcd,
-    /// The first word is a run of half-bits.
+    /// The first word is a run of half-bits, or the word `---`.
     Halves,
     /// The first word is the first word of a decoder text.
     Decoders,

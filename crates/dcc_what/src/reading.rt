@@ -4,16 +4,20 @@ ghost use Rattle.dcc_packet.specs.Words.{words};
 ghost use Rattle.dcc_io.specs.Items.{in_text};
 ghost use Rattle.dcc_io.specs.PacketLines.{lines_by};
 ghost use Rattle.dcc_io.specs.declared.fault.ToolFault.TheVariants.{NoMemory};
-ghost use Rattle.dcc_what.specs.Kinds.{begins_with, closed, file_kind, front_kind, input_of_bytes, kind_of, text_kind};
+ghost use Rattle.dcc_io.specs.Words.{is_mark};
+ghost use Rattle.dcc_listen.specs.GatheredBoth.{both_in};
+ghost use Rattle.dcc_what.specs.Kinds.{begins_capture, begins_with, closed, file_kind, front_kind, input_of_bytes};
+ghost use Rattle.dcc_what.specs.Kinds.{kind_of, marked_kind, text_kind};
 
 use crate::kind::{Front, Kind};
 use crate::lines::first_with_word;
 use crate::source::InMemory;
 use dcc_io::inputs::{ParsedLine, next_item, run_of};
 use dcc_io::{Input, KeptFault, Limits, StationLine, ToolFault};
-use dcc_listen::measure;
+use dcc_listen::{compare_both, measure};
 use dcc_packet::Packet;
 use dcc_packet::words::Words;
+use dcc_regs::Who;
 use dcc_saved::read_decoders;
 use std::alloc::Global;
 
@@ -61,10 +65,24 @@ fn front_kind(line: &[u8]) -> Front
         None => Front::Empty,
         Some(_) if line.contains(&b',') => Front::Commas,
         Some(word) if begins_with(word, b"$") => Front::Vcd,
-        Some(word) if run_of(word).is_some() => Front::Halves,
+        Some(word) if begins_capture(word) => Front::Halves,
         Some(word) if word == b"dcc-decoders".as_slice() => Front::Decoders,
         Some(_) => Front::Lines,
     }
+}
+
+/// Returns true if a word is the beginning of a capture: a run, or `---` after an empty capture.
+fn begins_capture(word: &[u8]) -> bool
+    ensures { result ≡ begins_capture word.now }
+{
+    run_of(word).is_some() || is_mark(word)
+}
+
+/// Returns true if a word is `---`.
+fn is_mark(word: &[u8]) -> bool
+    ensures { result ≡ is_mark word.now }
+{
+    word.len() == 3 && word.iter().all(|byte| *byte == b'-')
 }
 
 /// Returns the kind of the text `bytes`, whose first line with a word suggests `front`.
@@ -75,7 +93,7 @@ fn text_kind(alloc: Global, bytes: &[u8], front: Front) -> Result<Kind, ToolFaul
         Front::Empty => Ok(Kind::Empty),
         Front::Commas => Ok(Kind::Commas),
         Front::Vcd => Ok(Kind::Vcd),
-        Front::Halves => Ok(capture_kind(bytes)),
+        Front::Halves => capture_kind(alloc, bytes),
         Front::Decoders => decoders_kind(alloc, bytes),
         Front::Lines => Ok(lines_kind(bytes)),
     }
@@ -88,9 +106,9 @@ fn input_of(bytes: &[u8]) -> Input<InMemory<'_>>
     Input::new(InMemory { rest: bytes }, Limits::full())
 }
 
-/// Returns the kind of a text that begins with a run of half-bits.
-fn capture_kind(bytes: &[u8]) -> Kind
-    ensures { result ≡ text_kind bytes.now Front.Halves }
+/// Returns the kind of a text that begins as a capture.
+fn capture_kind(alloc: Global, bytes: &[u8]) -> Result<Kind, ToolFault>
+    ensures { MatchResult result (λ kind. kind ≡ text_kind bytes.now Front.Halves) (λ fault. fault ≡ NoMemory) }
 {
     let mut input = input_of(bytes);
     match measure(&mut input) {
@@ -98,15 +116,34 @@ fn capture_kind(bytes: &[u8]) -> Kind
             let timings = figures.timings();
             let halves = timings.halves();
             let above = timings.classes().above.count();
-            Kind::Capture {
+            Ok(Kind::Capture {
                 halves,
                 long: u64::from(halves) < 2 * above,
-            }
+            })
         }
-        Err(KeptFault::Number { line }) => Kind::BadCapture { line },
-        Err(KeptFault::TooMuch) => Kind::TooLong,
+        Err(KeptFault::Number { line }) => marked_kind(alloc, bytes, line),
+        Err(KeptFault::TooMuch) => Ok(Kind::TooLong),
         Err(KeptFault::Line { .. }) => unreachable!(),
         Err(KeptFault::Read) => no_failure(&input),
+    }
+}
+
+/// Returns the kind of a text that begins as a capture, and has a wrong word on the line `line`. The
+/// word may separate two captures.
+fn marked_kind(alloc: Global, bytes: &[u8], line: u64) -> Result<Kind, ToolFault>
+    ensures { MatchResult result
+        (λ kind. kind ≡ marked_kind line (both_in (input_of_bytes bytes.now) (closed bytes.now)).fault)
+        (λ fault. fault ≡ NoMemory) }
+{
+    let mut input = input_of(bytes);
+    match compare_both(alloc, &mut input, Who::Loco(None)) {
+        Ok(_) => Ok(Kind::TwoCaptures { line }),
+        Err(ToolFault::Number { line }) => Ok(Kind::BadCapture { line }),
+        Err(ToolFault::Line { .. }) => Ok(Kind::TooLong),
+        Err(ToolFault::TooMuch) => Ok(Kind::TooLong), // too many half-bits
+        Err(ToolFault::NoMemory) => Err(ToolFault::NoMemory), // for packets
+        Err(ToolFault::Read) => no_failure(&input),
+        Err(_) => unreachable!(),
     }
 }
 
@@ -118,8 +155,8 @@ fn decoders_kind(alloc: Global, bytes: &[u8]) -> Result<Kind, ToolFault>
     match read_decoders(alloc, &mut input) {
         Ok(_) => Ok(Kind::Decoders),
         Err(ToolFault::Line { line, fault }) => Ok(Kind::BadDecoders { line, fault }),
-        Err(ToolFault::TooMuch) => Ok(Kind::TooLong),
-        Err(ToolFault::NoMemory) => Err(ToolFault::NoMemory),
+        Err(ToolFault::TooMuch) => Ok(Kind::TooLong), // too many decoders
+        Err(ToolFault::NoMemory) => Err(ToolFault::NoMemory), // for decoders
         Err(ToolFault::Read) => no_failure(&input),
         Err(_) => unreachable!(),
     }

@@ -4,10 +4,9 @@ ghost use Rattle.std.specs.List.{flat_map};
 ghost use Rattle.arrayvec.specs.ArrayVec.{array_vec_len};
 ghost use Rattle.hex.specs.Hex.{encode_lower};
 ghost use Rattle.dcc_packet.specs.Words.{words};
-ghost use Rattle.dcc_io.specs.Words.{is_mark};
 ghost use Rattle.dcc_what.specs.Lines.{first_bad, line_numbered, lines_of};
 ghost use Rattle.dcc_what.specs.Sentences.{bad_word_sentence, capture_sentence, fault_text, sentence, shown_byte};
-ghost use Rattle.dcc_what.specs.Sentences.{shown_word};
+ghost use Rattle.dcc_what.specs.Sentences.{shown_word, two_captures_sentence};
 
 use crate::kind::Kind;
 use crate::lines::{bad_word, line_numbered};
@@ -64,6 +63,7 @@ fn append_sentence(text: &mut Sentence, bytes: &[u8], kind: Kind)
             b"a text with commas, such as a CSV file: tools/to-capture makes a capture of it",
         ),
         Kind::Capture { halves, long } => append_capture(text, halves, long),
+        Kind::TwoCaptures { line } => append_two_captures(text, line),
         Kind::BadCapture { line } => append_bad_capture(text, bytes, line),
         Kind::TooLong => append(
             text,
@@ -107,6 +107,20 @@ fn append_capture(text: &mut Sentence, halves: u32, long: bool)
     }
 }
 
+/// Appends the sentence about two captures with the word `---` on the line `line`, to the empty text.
+#[tactic(auto, using(crate::proofs::LinesLemmas::decimal_is_short))]
+fn append_two_captures(text: &mut Sentence, line: u64)
+    requires { array_vec_len text.old ≡ 0 }
+    ensures items { text.new.items ≡ two_captures_sentence line }
+    ensures len { array_vec_len text.new ≤ 200 }
+{
+    append(
+        text,
+        b"two captures, which `dcc same` compares, with --- on line ",
+    );
+    append_number(text, line);
+}
+
 /// Appends the sentence about a capture that has a wrong word on the line `line`, to the empty text.
 #[tactic(auto, using(crate::proofs::LinesLemmas::decimal_is_short))]
 fn append_bad_capture(text: &mut Sentence, bytes: &[u8], line: u64)
@@ -132,27 +146,12 @@ fn append_bad_word(text: &mut Sentence, line: u64, place: u64, word: &[u8])
     ensures items { text.new.items ≡ bad_word_sentence line (Some (place, word.now)) }
     ensures len { array_vec_len text.new ≤ 400 }
 {
-    if is_mark(word) {
-        append(
-            text,
-            b"two captures, which `dcc same` compares, with --- on line ",
-        );
-        append_number(text, line);
-        return;
-    }
     append(text, b"a capture with a wrong word: line ");
     append_number(text, line);
     append(text, b", word ");
     append_number(text, place);
     append(text, b": ");
     append_word(text, word);
-}
-
-/// Returns true if a word is `---`.
-fn is_mark(word: &[u8]) -> bool
-    ensures { result ≡ is_mark word.now }
-{
-    word.len() == 3 && word.iter().all(|byte| *byte == b'-')
 }
 
 /// Appends the error `fault` of the line `line`.

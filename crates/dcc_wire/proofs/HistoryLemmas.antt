@@ -35,26 +35,3 @@ history_more before half history = (
   history.0 ++ microseconds half ∷ [],
   rw (rest-push, history.1, class_of-microseconds half),
 )
-
--- a body that shows nothing is unfinished, and one that has come to an outcome leaves the ones of its end bit
-
-pub left_of-nothing : (halves : List Half) → answer_of (outcome_of halves) ≡ Nothing
-    → left_of halves (outcome_of halves) ≡ InBody halves
-unfolding left_of
-left_of-nothing halves nothing = rw (outcome_of-something halves nothing)
-
-pub left_of-outcome : (halves : List Half) (outcome : Option (ℕ × Seen)) (seen : Seen) → seen ≡ answer_of outcome
-    → seen ≢ Nothing → left_of halves outcome ≡ Hunting (ones_left seen)
-unfolding left_of answer_of
-left_of-outcome halves outcome seen e something = grind arith
-
--- two halves of a body, of which the first shows nothing
-pub twice : {old : Rest} {body : List Half} (half : Half) {seen : Seen} → old ≡ InBody body
-    → answer_of (outcome_of (body ++ half ∷ [])) ≡ Nothing
-    → seen ≡ answer_of (outcome_of ((body ++ half ∷ []) ++ half ∷ []))
-    → (answer_to old half ≡ Nothing) × (seen ≡ answer_to (rest_after old half) half)
-    × (rest_after (rest_after old half) half
-    ≡ left_of ((body ++ half ∷ []) ++ half ∷ []) (outcome_of ((body ++ half ∷ []) ++ half ∷ [])))
-unfolding rest_after answer_to
-twice {body = body} half view first answer =
-    let on = left_of-nothing (body ++ half ∷ []) first in (rw view first, rw (view, on) answer, rw (view, on))

@@ -10,20 +10,24 @@ use Rattle.dcc_wire.specs.declared.seen.Seen.TheVariants.{Nothing, Refused}
 use Rattle.dcc_wire.specs.Bodies.{bits_of, halves_of, first_half}
 use Rattle.dcc_wire.specs.Framing.{Rest, Hunting, InBody}
 use Rattle.dcc_wire.specs.Half.{bit_of}
+use Rattle.dcc_wire.specs.Inner.Lists.{PassesList}
 use Rattle.dcc_wire.specs.Inner.KeptSteps.{HasRoomFor, FitsBehind, Grows}
 use Rattle.dcc_wire.specs.Inner.Steps.{rest_after, answer_to, answer_of, left_of}
 use Rattle.dcc_wire.specs.Kept.{Kept, IsKept, kept_rest}
 use Rattle.dcc_wire.specs.Outcomes.{outcome_of, ones_left}
 use Rattle.dcc_wire.specs.Packed.{IsPacked, byte_bits, packed_bits}
 use Rattle.dcc_wire.specs.Inner.OutcomeParts.{by_bits}
+use Rattle.dcc_wire.specs.Runs.{IsQuietFor, ones_after}
 use Rattle.dcc_wire.proofs.BitLemmas.{half_of}
 use Rattle.dcc_wire.proofs.ByteBits.{cases_Option}
 use Rattle.dcc_wire.proofs.HistoryLemmas.{HasHistory, history_more}
+use Rattle.dcc_wire.proofs.ListLemmas.{history_list}
 use Rattle.dcc_wire.proofs.OpenBodies.{answer-bad, answer-bit, answer-first, answer-split, bit_more, first_more}
 use Rattle.dcc_wire.proofs.OpenBodies.{bad_half, half_of-bit}
 use Rattle.dcc_wire.proofs.OutcomeLemmas.{answer-open, closed_something, outcome_of-something}
 use Rattle.dcc_wire.proofs.PackedLemmas.{answer-closed, packed_bits-byte, packed_bits-more, packed_more, packed_none}
 use Rattle.dcc_wire.proofs.PackedLemmas.{packed_open, packed_whole}
+use Rattle.dcc_wire.proofs.RunLemmas.{skip_history}
 
 in_body_rest : (k : Kept) (has_first : Bool) → k.in_body ≡ true → k.has_first ≡ has_first
     → kept_rest k ≡ InBody (halves_of (packed_bits k.bytes k.count k.shift) ++ first_half
@@ -220,12 +224,31 @@ pub outcome_leaves : (k : Kept) (half : Half) → answer_to (kept_rest k) half �
     → rest_after (kept_rest k) half ≡ Hunting (ones_left (answer_to (kept_rest k) half))
 outcome_leaves k half shows = left_by (kept_rest k) half shows
 
--- a framer that hunts again
-pub hunts_again : {k : Kept} (is : IsKept k) (half : Half) → answer_to (kept_rest k) half ≢ Nothing → (ones : ℕ)
-    → ones ≡ ones_left (answer_to (kept_rest k) half) → IsKept (record k { in_body = false; ones = ones })
-hunts_again {k} is half shows ones e = record {
+-- a framer between bodies
+pub kept_between : {k : Kept} → k.in_body ≡ false → HasHistory (Hunting k.ones) → IsKept k
+kept_between out history = record {
   packed = λ in_it. cc;
   unfinished = λ in_it. cc;
-  history = subst HasHistory (outcome_leaves k half shows ∙ ap Hunting (sym e))
-      (history_more (kept_rest k) half is.history);
+  history = rw out history;
 }
+
+-- after an outcome
+pub hunts_again : {k : Kept} (is : IsKept k) (half : Half) → answer_to (kept_rest k) half ≢ Nothing → (ones : ℕ)
+    → ones ≡ ones_left (answer_to (kept_rest k) half) → IsKept (record k { in_body = false; ones = ones })
+hunts_again {k} is half shows ones e =
+    kept_between refl
+    (subst HasHistory (outcome_leaves k half shows ∙ ap Hunting (sym e)) (history_more (kept_rest k) half is.history))
+
+-- after half-bits that begin no body
+module _ {k : Kept} (is : IsKept k) (out : k.in_body ≡ false) where
+  history_of_ones : HasHistory (Hunting k.ones)
+  history_of_ones = rw out at is.history
+
+  pub skipped_on : (half : Half) (n ones : ℕ) → IsQuietFor (kept_rest k) half → ones ≡ ones_after k.ones half n
+      → IsKept (record k { ones = ones })
+  skipped_on half n ones quiet e =
+      kept_between out (rw e (skip_history k.ones half n (rw out at quiet) history_of_ones))
+
+  pub hunted_on : (halves : List ℕ) (ones : ℕ) → PassesList (Hunting k.ones) halves (Hunting ones)
+      → IsKept (record k { ones = ones })
+  hunted_on halves ones passes = kept_between out (history_list passes history_of_ones)

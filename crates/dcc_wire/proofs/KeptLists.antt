@@ -44,7 +44,8 @@ passes_bits old new halves has has_new unfinished adds =
     }
 
 pub kept_on : {old : Kept} (new : Kept) (halves : List ℕ) → IsKept old → HasWholeBits old → HasWholeBits new
-    → IsPacked new.bytes new.xor new.count new.shift → AddsBits (bits_kept old) halves (bits_kept new) → IsKept new
+    → IsPacked new.bytes new.xor new.count new.shift → AddsBits (bits_kept old) halves (bits_kept new)
+    → IsKept new
 kept_on {old} new halves is has has_new packed adds =
     let passes = passes_bits old new halves has has_new (packed_open packed) adds in
     record {

@@ -1,5 +1,5 @@
 -- Lists of half-bits that a framer takes.
-use Rattle.std.proofs.Common.{◌≡◌, ℕ, suc, ◌+◌, ◌-◌, ◌<◌, ◌≤◌, List, [], ◌∷◌, ◌++◌, length, length-append, take}
+use Rattle.std.proofs.Common.{◌≡◌, ℕ, suc, zero, ◌+◌, ◌-◌, ◌<◌, ◌≤◌, List, [], ◌∷◌, ◌++◌, length, length-append, take}
 use Rattle.std.proofs.Common.{drop, map}
 use Rattle.std.proofs.Common.{get_or, refl, sym, ap, ◌∙◌, arith, append_assoc, append-nil, ◌≢◌, None, inl}
 use Rattle.std.proofs.Common.{inr}
@@ -197,3 +197,9 @@ takes_nothing halves shown takes nothing = record {
 pub passes_of_body : {old new : Rest} {halves : List ℕ} → PassesBody old halves new → PassesList old halves new
 passes_of_body {halves = halves} passes =
     rw (passes.before, passes.after) (passes_body passes.body halves passes.unfinished)
+
+-- a body that takes some half-bits or none
+pub passes_some : {old new : Rest} (halves : List ℕ) (at : ℕ) → (at ≢ 0 → PassesBody old (take at halves) new)
+    → (at ≡ 0 → new ≡ old) → PassesList old (take at halves) new
+passes_some {old} halves zero some none = rw (none refl) (passes_none old)
+passes_some halves (suc at) some none = passes_of_body (some (λ e. cc))

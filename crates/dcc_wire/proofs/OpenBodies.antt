@@ -63,26 +63,6 @@ module _ (bits : List Bool) (unfinished : bytes_in 6 bits ≡ None) where
   unfolding first_half half_of answer_of bits_in behind_bits by_halves
   answer-split first bit apart = answer-behind (Some first) (half_of bit) (grind arith) (grind arith) ∙ grind arith
 
--- the halves with one more, where the first half so far and the bit of the new one are known
-pub with_half : (bits : List Bool) (half : Half) {kept first : Option Bool} {halves : List Half} {bit : Bool}
-    → halves_of bits ++ first_half kept ≡ halves → kept ≡ first → bit_of half ≡ Some bit
-    → halves ++ half ∷ [] ≡ (halves_of bits ++ first_half first) ++ half_of bit ∷ []
-with_half bits half {bit} view e b = rw (← view, e, half_of-bit half bit b)
-
--- what `==` on two bits says
-pub bits_same : (a b : Bool) → beq a b ≡ true → a ≡ b
-bits_same a b e = grind arith
-
-pub bits_apart : (a b : Bool) → beq a b ≡ false → a ≢ b
-bits_apart a b e = grind arith
-
--- both halves of a bit, where no first half is kept
-pub two_halves_more : (bits : List Bool) (half : Half) {halves : List Half} {kept : Option Bool} {bit : Bool}
-    → halves_of bits ++ first_half kept ≡ halves → kept ≡ None → bit_of half ≡ Some bit
-    → (halves ++ half ∷ []) ++ half ∷ [] ≡ halves_of (bits ++ bit ∷ [])
-two_halves_more bits half {bit = bit} view none is =
-    rw (with_half bits half view none is, ← first_more bits bit, half_of-bit half bit is) (sym (bit_more bits bit))
-
 -- an unfinished body has no outcome
 pub body_open : (bits : List Bool) (first : Option Bool) → bytes_in 6 bits ≡ None
     → outcome_of (halves_of bits ++ first_half first) ≡ None

@@ -21,6 +21,7 @@ use Rattle.dcc_wire.specs.Outcomes.{bytes_in, ones_left, bits_in, by_halves, out
 use Rattle.dcc_wire.specs.Recovery.{ended_by_ones, open_end, at_open_end, at_first}
 use Rattle.dcc_wire.specs.Recovery.{NoiseCostsNoLaterPacket, NoiseCostsAtMostTheFirst, OpenBodiesEndSoon}
 use Rattle.dcc_wire.specs.Recovery.{NoiseBetweenBodiesCostsNothing, LongPreamblesLoseNothing, OneOfThreeCopiesIsSeen}
+use Rattle.dcc_wire.specs.Recovery.{OneOfThreeCopiesIsSeenAfterNoise}
 use Rattle.dcc_wire.specs.Runs.{ones_after}
 use Rattle.dcc_wire.specs.Frames.{IsFrame}
 use Rattle.dcc_wire.specs.Sending.{durations_of, sent, Sent, sent_all, at_last_halves, AllFrames}
@@ -255,11 +256,12 @@ body_passes timing (byte ∷ bytes) durations ones few last hunts =
 
 -- the first packet
 
-record First (noise : List ℕ) (first : Sent) : Type 0 where
-  ones : ℕ
-  few : ones ≤ 20
-  open_part : rest (noise ++ sent first.bytes first.timing) ≡ Hunting ones
-  outcomes : seen (noise ++ sent first.bytes first.timing) ≡ seen noise ++ at_open_end (length noise) (open_end noise)
+pub record First (noise : List ℕ) (first : Sent) : Type 0 where
+  pub ones : ℕ
+  pub few : ones ≤ 20
+  pub open_part : rest (noise ++ sent first.bytes first.timing) ≡ Hunting ones
+  pub outcomes : seen (noise ++ sent first.bytes first.timing)
+      ≡ seen noise ++ at_open_end (length noise) (open_end noise)
       ++ at_first (length noise) (open_end noise) first
 
 module _ (place : ℕ) (p : ℕ × Seen) (first : Sent) where
@@ -396,7 +398,7 @@ module _ (noise : List ℕ) (halves : List Half) (inside : rest noise ≡ InBody
   first_cut = elim (cases_lt preamble (at + 18)) [ inl late ↦ lost late | inr early ↦ heard early ]
 
 -- each list of half-bits
-first_after : (noise : List ℕ) (first : Sent) → IsFrame first.bytes → First noise first
+pub first_after : (noise : List ℕ) (first : Sent) → IsFrame first.bytes → First noise first
 first_after noise first frame = by_rest (rest noise) refl
   where
     by_rest : (state : Rest) → rest noise ≡ state → First noise first
@@ -460,7 +462,7 @@ long_preambles noise first others frames long =
 
 -- copies
 
-sent_all-append : (packets others : List Sent) → sent_all (packets ++ others) ≡ sent_all packets ++ sent_all others
+pub sent_all-append : (packets others : List Sent) → sent_all (packets ++ others) ≡ sent_all packets ++ sent_all others
 unfolding sent_all
 sent_all-append [] others = refl
 sent_all-append (packet ∷ packets) others = rw (sent_all-append packets others, append_assoc)
@@ -510,13 +512,54 @@ three_copies earlier copy zero after noise frames frame two =
 three_copies earlier copy (suc before) after noise frames frame two =
     let packets : List Sent = earlier ++ copy ∷ [] in
     let more : List ℕ = sent_all (replicate before copy) in
-    let rest_of : List ℕ = sent_all (replicate after copy) in
+    let kept_rest : List ℕ = sent_all (replicate after copy) in
     let front : sent_all (earlier ++ replicate (suc before) copy) ≡ sent_all packets ++ more =
     ap sent_all (sym (append_assoc earlier (copy ∷ []) (replicate before copy)))
     ∙ sent_all-append packets (replicate before copy) in
-    let whole = copy_before earlier copy ((more ++ noise) ++ rest_of) frames frame in
+    let whole = copy_before earlier copy ((more ++ noise) ++ kept_rest) frames frame in
     inl (
       omega arith,
-      rw (front, append_assoc (sent_all packets) more noise, append_assoc (sent_all packets) (more ++ noise) rest_of)
+      rw (front, append_assoc (sent_all packets) more noise, append_assoc (sent_all packets) (more ++ noise) kept_rest)
           whole,
+    )
+
+-- a copy after any half-bits, a whole packet and other packets, before any half-bits
+copy_between : (start : List ℕ) (first : Sent) (earlier : List Sent) (copy : Sent) (more : List ℕ)
+    → AllFrames (first ∷ earlier) → IsFrame copy.bytes
+    → Contains (seen ((start ++ sent_all (first ∷ earlier ++ copy ∷ [])) ++ more))
+    (length (start ++ sent_all (first ∷ earlier ++ copy ∷ [])) - 1, Packet copy.bytes)
+unfolding AllFrames sent_all
+copy_between start first earlier copy more frames frame =
+    let packets : List Sent = earlier ++ copy ∷ [] in
+    let grown = seen-grows (start ++ sent_all (first ∷ packets)) more in
+    let place : length (start ++ sent_all (first ∷ packets)) - 1
+    ≡ length (start ++ sent_all (first ∷ [])) + length (sent_all packets) - 1 =
+    omega (arith, length-append {A = ℕ}) in
+    rw (grown.1, others_seen start first packets (frames.0, all_frames-append earlier copy frames.1 frame))
+    (Contains-append_left _ grown.0 _
+    (Contains-append_right _ _ _
+    (last_packet (length (start ++ sent_all (first ∷ []))) _ earlier copy place)))
+
+pub three_copies_after_noise : OneOfThreeCopiesIsSeenAfterNoise
+three_copies_after_noise start first earlier copy zero after noise frames frame two =
+    let both : after ≡ 2 = omega arith in
+    let sent : List ℕ = start ++ sent_all (first ∷ earlier ++ []) in
+    inr (refl, rw both (copy_after (sent ++ noise) copy frame))
+three_copies_after_noise start first earlier copy (suc before) after noise frames frame two =
+    let packets : List Sent = first ∷ earlier ++ copy ∷ [] in
+    let more : List ℕ = sent_all (replicate before copy) in
+    let kept_rest : List ℕ = sent_all (replicate after copy) in
+    let front : start ++ sent_all (first ∷ earlier ++ replicate (suc before) copy)
+    ≡ (start ++ sent_all packets) ++ more =
+    ap (λ l. start ++ sent_all (first ∷ l)) (sym (append_assoc earlier (copy ∷ []) (replicate before copy)))
+    ∙ ap (λ l. start ++ l) (sent_all-append packets (replicate before copy))
+    ∙ sym (append_assoc start (sent_all packets) more) in
+    let whole = copy_between start first earlier copy ((more ++ noise) ++ kept_rest) frames frame in
+    inl (
+      omega arith,
+      rw (
+        front,
+        append_assoc (start ++ sent_all packets) more noise,
+        append_assoc (start ++ sent_all packets) (more ++ noise) kept_rest,
+      ) whole,
     )

@@ -9,7 +9,6 @@ pub mod Outcomes
 pub mod Framing
 pub mod SeenLaws
 pub mod Runs
-pub mod FramerState
 pub mod Timings
 pub mod NominalTimings
 pub mod Sending

@@ -89,3 +89,16 @@ OneOfThreeCopiesIsSeen =
     → let track = sent_all (earlier ++ replicate before copy) ++ noise ++ sent_all (replicate after copy) in
     ((1 ≤ before) × Contains (seen track) (length (sent_all (earlier ++ copy ∷ [])) - 1, Packet copy.bytes))
     ⊎ ((before ≡ 0) × Contains (seen track) (length track - 1, Packet copy.bytes))
+
+-- the track begins with any half-bits `start` and a whole packet `first`, for example because a
+-- locomotive has just gained contact. Then the packets `earlier` and three copies of a packet are sent,
+-- one of which noise replaces. Another copy is seen, as in `OneOfThreeCopiesIsSeen`.
+abbrev pub OneOfThreeCopiesIsSeenAfterNoise : Type 0
+OneOfThreeCopiesIsSeenAfterNoise =
+    (start : List ℕ) (first : Sent) (earlier : List Sent) (copy : Sent) (before after : ℕ) (noise : List ℕ)
+    → AllFrames (first ∷ earlier) → IsFrame copy.bytes → before + after ≡ 2
+    → let sent = start ++ sent_all (first ∷ earlier ++ replicate before copy) in
+    let track = sent ++ noise ++ sent_all (replicate after copy) in
+    ((1 ≤ before)
+    × Contains (seen track) (length (start ++ sent_all (first ∷ earlier ++ copy ∷ [])) - 1, Packet copy.bytes))
+    ⊎ ((before ≡ 0) × Contains (seen track) (length track - 1, Packet copy.bytes))

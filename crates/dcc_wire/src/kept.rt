@@ -1,14 +1,9 @@
 //! A framer that is stored as plain numbers.
 
-ghost use Rattle.std.specs.Prelude.{◌≡◌};
-ghost use Rattle.dcc_wire.specs.Kept.{kept_rest};
-
+use crate::byte_bits::bits_of_byte;
 use crate::bytes::PacketBytes;
-use crate::framer::{State, begins_body, counted, still_ones};
-use crate::open_body::OpenBody;
-use crate::packed_bits::{PackedBits, bits_of_byte};
+use crate::run::count_on;
 use crate::{Fault, Framer, Half, Seen};
-use arrayvec::ArrayVec;
 use std::marker::Model;
 
 /// The state of a framer as plain numbers. A `KeptFramer` can be copied, and can be stored where a
@@ -17,9 +12,9 @@ use std::marker::Model;
 #[derive(Clone, Copy)]
 pub struct KeptFramer {
     /// True if a body is unfinished.
-    in_body: bool,
+    pub(crate) in_body: bool,
     /// The number of half-bits of ones between bodies, counted up to 20.
-    ones: u8,
+    pub(crate) ones: u8,
     /// True if the first half-bit of the next bit of the body has come. The field `first` is the
     /// bit of this half-bit.
     has_first: bool,
@@ -73,19 +68,37 @@ impl Model for KeptFramer {
 }
 
 impl KeptFramer {
-    ghost use Rattle.std.specs.Prelude.{◌≡◌, ◌≢◌, ◌↔◌, ℕ, List, ◌++◌, [], ◌∷◌, Some, length, IsTrue, true, false};
-    ghost use Rattle.std.specs.Prelude.{replicate, ◌≤◌, Bool, map, take, None};
+    ghost use Rattle.std.specs.Prelude.{◌≡◌, ◌≢◌, ◌↔◌, ◌≤◌, ℕ, Bool, List, ◌++◌, [], ◌∷◌, Some, None, length, map};
+    ghost use Rattle.std.specs.Prelude.{replicate, take, IsTrue, true, false, IfSome, IfNone};
     ghost use Rattle.dcc_wire.specs.Bodies.{halves_of};
-    ghost use Rattle.dcc_wire.specs.Outcomes.{bytes_in};
+    ghost use Rattle.dcc_wire.specs.Outcomes.{bytes_in, ones_left};
     ghost use Rattle.dcc_wire.specs.Packed.{packed_bits};
     ghost use Rattle.dcc_wire.specs.Passes.{PassesBody};
     ghost use Rattle.dcc_wire.specs.Half.{bit_of, class_of};
-    ghost use Rattle.dcc_wire.specs.Runs.{still_ones};
-    ghost use Rattle.dcc_wire.specs.Outcomes.{ones_left};
-    ghost use Rattle.dcc_wire.specs.Framing.{Hunting, InBody, StandsFor, is_hunting, seen, report_at};
+    ghost use Rattle.dcc_wire.specs.Runs.{IsQuietFor, rest_after_run, still_ones};
+    ghost use Rattle.dcc_wire.specs.Kept.{IsKept, kept_rest};
+    ghost use Rattle.dcc_wire.specs.Framing.{Hunting, StandsFor, is_hunting, seen, report_at};
     ghost use Rattle.dcc_wire.specs.Inner.Steps.{rest_after, answer_to};
     ghost use Rattle.dcc_wire.specs.Inner.KeptSteps.{Grows, HasRoomFor};
     ghost use Rattle.dcc_wire.specs.declared.half.Half.{Half as HalfOf};
+
+    /// Creates the state of a framer that has taken no half-bit.
+    #[tactic(auto, using(crate::proofs::FramerSteps::nothing_yet))]
+    pub fn new() -> KeptFramer
+        ensures is { IsKept result }
+        ensures stands { StandsFor (kept_rest result) [] }
+    {
+        KeptFramer {
+            in_body: false,
+            ones: 0,
+            has_first: false,
+            first: false,
+            xor: 0,
+            shift: 0,
+            count: 0,
+            bytes: PacketBytes::none(),
+        }
+    }
 
     /// Takes a half-bit of `us` microseconds, with the contract of [`Framer::push`].
     #[tactic(auto, unfolding(crate::specs::Framing::StandsFor), using(crate::proofs::FramerSteps::pushes))]
@@ -138,11 +151,25 @@ impl KeptFramer {
         self.take_apart(Half::of(us))
     }
 
+    /// Returns true if half-bits of `us` microseconds change nothing, whatever their number: they
+    /// have no outcome, and the state stays the same.
+    #[tactic(auto, unfolding(crate::specs::Framing::StandsFor), using(crate::proofs::RunLemmas::skips_still))]
+    pub fn stays(&self, us: u16) -> bool
+        ensures still { IsTrue result ↔ (kept_rest self.now ≡ Hunting (still_ones (class_of us))) }
+        ensures stands { IsTrue result → (durations : List ℕ) (n : ℕ) → StandsFor (kept_rest self.now) durations
+            → StandsFor (kept_rest self.now) (durations ++ replicate n us) }
+        ensures sees { IsTrue result → (durations : List ℕ) (n : ℕ) → StandsFor (kept_rest self.now) durations
+            → seen (durations ++ replicate n us) ≡ seen durations }
+    {
+        self.is_still(Half::of(us))
+    }
+
     /// Takes half-bits at the beginning of `halves` that form bits of an unfinished body and do not
     /// end this body. Returns the number of these half-bits. Returns 0 and changes nothing if no body
     /// is unfinished, or if the first half-bit of a bit has come already.
     #[inline(always)]
     pub fn pass_bits(&mut self, halves: &[u16]) -> usize
+        ensures is { IsKept self.new }
         ensures passes { result ≢ 0 → PassesBody (kept_rest self.old) (take result halves.now) (kept_rest self.new) }
         ensures left { result ≡ 0 → self.new ≡ self.old }
         ensures count { result ≤ length halves.now }
@@ -167,6 +194,7 @@ impl KeptFramer {
     fn pass_byte(&mut self, halves: &[u16]) -> usize
         requires in_body { self.old.in_body ≡ true }
         requires whole { self.old.has_first ≡ false }
+        ensures is { IsKept self.new }
         ensures bits { (bits : List Bool) × (halves_of bits ≡ map class_of (take result halves.now))
             × (packed_bits self.new.bytes self.new.count self.new.shift
             ≡ packed_bits self.old.bytes self.old.count self.old.shift ++ bits) }
@@ -192,8 +220,11 @@ impl KeptFramer {
         part.at
     }
 
+    /// Takes a half-bit of the class `half`. Returns the outcome that ends with this half-bit, or
+    /// `Nothing`.
     #[inline(always)]
-    fn take_half(&mut self, half: Half) -> Seen
+    pub(crate) fn take_half(&mut self, half: Half) -> Seen
+        ensures is { IsKept self.new }
         ensures history { (durations : List ℕ) × StandsFor (kept_rest self.old) durations }
         ensures after { kept_rest self.new ≡ rest_after (kept_rest self.old) half }
         ensures answer { result ≡ answer_to (kept_rest self.old) half }
@@ -206,8 +237,11 @@ impl KeptFramer {
         }
     }
 
+    /// Takes a half-bit of the class `half` if it has no outcome. Returns true if the function took the
+    /// half-bit.
     #[inline(always)]
-    fn pass_half(&mut self, half: Half) -> bool
+    pub(crate) fn pass_half(&mut self, half: Half) -> bool
+        ensures is { IsKept self.new }
         ensures history { (durations : List ℕ) × StandsFor (kept_rest self.old) durations }
         ensures grows { IsTrue result → Grows self.old half self.new }
         ensures left { result ≡ false → self.new ≡ self.old }
@@ -224,6 +258,7 @@ impl KeptFramer {
     /// code. Returns false if the half-bit ends the body.
     #[inline(always)]
     fn pass_known(&mut self, half: Half) -> bool
+        ensures is { IsKept self.new }
         ensures history { (durations : List ℕ) × StandsFor (kept_rest self.old) durations }
         ensures grows { IsTrue result → Grows self.old half self.new }
         ensures left { result ≡ false → self.new ≡ self.old }
@@ -300,8 +335,9 @@ impl KeptFramer {
     }
 
     /// Takes a half-bit that ends the body, and returns the outcome.
-    fn take_apart(&mut self, half: Half) -> Seen
+    pub(crate) fn take_apart(&mut self, half: Half) -> Seen
         requires { answer_to (kept_rest self.old) half ≢ Seen.Nothing }
+        ensures is { IsKept self.new }
         ensures history { (durations : List ℕ) × StandsFor (kept_rest self.old) durations }
         ensures after { kept_rest self.new ≡ rest_after (kept_rest self.old) half }
         ensures answer { result ≡ answer_to (kept_rest self.old) half }
@@ -340,75 +376,103 @@ impl KeptFramer {
         !self.in_body
     }
 
-    /// Returns true if half-bits of `us` microseconds change nothing, whatever their number: they
-    /// have no outcome, and the state stays the same.
-    #[tactic(auto, unfolding(crate::specs::Framing::StandsFor), using(crate::proofs::RunLemmas::skips_still))]
-    pub fn stays(&self, us: u16) -> bool
-        ensures still { IsTrue result ↔ (kept_rest self.now ≡ Hunting (still_ones (class_of us))) }
-        ensures stands { IsTrue result → (durations : List ℕ) (n : ℕ) → StandsFor (kept_rest self.now) durations
-            → StandsFor (kept_rest self.now) (durations ++ replicate n us) }
-        ensures sees { IsTrue result → (durations : List ℕ) (n : ℕ) → StandsFor (kept_rest self.now) durations
-            → seen (durations ++ replicate n us) ≡ seen durations }
-    {
-        !self.in_body && self.ones == still_ones(Half::of(us))
-    }
-
     /// Returns the framer with this state. The framer represents the lists of half-bits that the
     /// state represents.
-    #[inline(never)]
     pub fn framer(&self) -> Framer
         ensures { result ≡ kept_rest self.now }
     {
+        let _ = &self.in_body;
+        Framer { kept: *self }
+    }
+
+    /// Takes two half-bits of the class `half`, which form a bit of a body. Returns the outcome of
+    /// the second half-bit. The first half-bit has no outcome. Returns `None`, and changes nothing, if
+    /// the two half-bits form no bit of a body. This is so between bodies, after the first half-bit of
+    /// a bit, and for a bad class.
+    #[inline(always)]
+    pub(crate) fn take_bit(&mut self, half: Half) -> Option<Seen>
+        ensures is { IsKept self.new }
+        ensures none { IfNone result (self.new ≡ self.old) }
+        ensures first { IfSome result (λ seen. answer_to (kept_rest self.old) half ≡ Seen.Nothing) }
+        ensures after { IfSome result
+            (λ seen. kept_rest self.new ≡ rest_after (rest_after (kept_rest self.old) half) half) }
+        ensures answer { IfSome result (λ seen. seen ≡ answer_to (rest_after (kept_rest self.old) half) half) }
+        ensures hunts { IfSome result (λ seen. seen ≢ Seen.Nothing → kept_rest self.new ≡ Hunting (ones_left seen)) }
+    {
+        if self.has_first || !self.in_body {
+            return None;
+        }
+        let Some(bit) = half.bit() else {
+            return None;
+        };
+        self.add(bit);
+        if self.pass_known(half) {
+            return Some(Seen::Nothing);
+        }
+        Some(self.take_apart(half))
+    }
+
+    /// Returns true if no number of half-bits of the class `half` can begin a body.
+    pub(crate) fn is_quiet(&self, half: Half) -> bool
+        ensures { IsTrue result ↔ IsQuietFor (kept_rest self.now) half }
+    {
+        !self.in_body && (half != Half::Zero || self.ones < 20)
+    }
+
+    /// Takes `n` half-bits of the class `half`, which have no outcome.
+    pub(crate) fn skip(&mut self, half: Half, n: u32)
+        requires { IsQuietFor (kept_rest self.old) half }
+        ensures is { IsKept self.new }
+        ensures after { kept_rest self.new ≡ rest_after_run (kept_rest self.old) half n }
+    {
         if !self.in_body {
-            return Framer {
-                state: State::Hunting(self.ones),
-            };
+            self.ones = count_on(self.ones, half, n);
         }
-        let mut bytes = ArrayVec::new();
-        let _ = bytes.try_extend_from_slice(self.bytes.as_slice());
-        Framer {
-            state: State::InBody(OpenBody {
-                bits: PackedBits {
-                    bytes,
-                    xor: self.xor,
-                    shift: self.shift,
-                    count: self.count,
-                },
-                first: self.has_first.then_some(self.first),
-            }),
-        }
+    }
+
+    /// Returns true if half-bits of the class `half` change nothing, whatever their number.
+    pub(crate) fn is_still(&self, half: Half) -> bool
+        ensures { IsTrue result ↔ (kept_rest self.now ≡ Hunting (still_ones half)) }
+    {
+        !self.in_body && self.ones == still_ones(half)
     }
 }
 
-impl Framer {
-    ghost use Rattle.std.specs.Prelude.{◌≡◌};
-    ghost use Rattle.dcc_wire.specs.Kept.{kept_rest};
+ghost use Rattle.std.specs.Prelude.{◌≡◌, ◌∷◌, [], false, IsTrue};
+ghost use Rattle.dcc_wire.specs.Framing.{Hunting, InBody};
+ghost use Rattle.dcc_wire.specs.Inner.Steps.{rest_after};
+ghost use Rattle.dcc_wire.specs.Runs.{IsQuiet, still_ones};
 
-    /// Returns the state of the framer as plain numbers, and does not change the framer.
-    pub fn keep(&self) -> KeptFramer
-        ensures { kept_rest result ≡ self.now }
-    {
-        match &self.state {
-            State::Hunting(ones) => KeptFramer {
-                in_body: false,
-                ones: *ones,
-                has_first: false,
-                first: false,
-                xor: 0,
-                shift: 0,
-                count: 0,
-                bytes: PacketBytes::none(),
-            },
-            State::InBody(body) => KeptFramer {
-                in_body: true,
-                ones: 0,
-                has_first: body.first.is_some(),
-                first: body.first.unwrap_or(false),
-                xor: body.bits.xor,
-                shift: body.bits.shift,
-                count: body.bits.count,
-                bytes: PacketBytes::of(body.bits.bytes.as_slice()),
-            },
-        }
+/// Returns true if a half-bit of the class `half` begins a body after `ones` half-bits of ones. The
+/// number `ones` is counted up to 20.
+#[inline(always)]
+#[tactic(auto, unfolding(crate::specs::Inner::Steps::rest_after))]
+pub(crate) fn begins_body(ones: u8, half: Half) -> bool
+    ensures yes { IsTrue result → rest_after (Hunting ones) half ≡ InBody (Half.Zero ∷ []) }
+    ensures no { (result ≡ false) → IsQuiet ones half }
+{
+    half == Half::Zero && ones >= 20
+}
+
+/// Returns the number of half-bits of ones, counted up to 20, after `ones` half-bits of ones and
+/// one half-bit of the class `half`, which begins no body.
+#[inline(always)]
+#[tactic(auto, unfolding(crate::specs::Inner::Steps::rest_after))]
+pub(crate) fn counted(ones: u8, half: Half) -> u8
+    requires { IsQuiet ones half }
+    ensures { Hunting result ≡ rest_after (Hunting ones) half }
+{
+    if half != Half::One {
+        return 0;
     }
+    if ones < 20 { ones + 1 } else { 20 }
+}
+
+/// Returns the number of half-bits of ones, counted up to 20, that stays the same after half-bits of
+/// the class `half`.
+#[tactic(auto, unfolding(crate::specs::Runs::still_ones))]
+fn still_ones(half: Half) -> u8
+    ensures { result ≡ still_ones half }
+{
+    if half == Half::One { 20 } else { 0 }
 }

@@ -3,13 +3,13 @@
 ghost use Rattle.std.specs.Prelude.{◌≡◌, ℕ, List, ◌++◌, map};
 ghost use Rattle.dcc_wire.specs.Half.{class_of};
 ghost use Rattle.dcc_wire.specs.Framing.{seen};
-ghost use Rattle.dcc_wire.specs.Jitter.{AreWithin};
+ghost use Rattle.dcc_wire.specs.Jitter.{AllNominal, AreWithin, CanBeSentAs};
 ghost use Rattle.dcc_wire.specs.SeenLaws.{SeenOnlyGrows};
 ghost use Rattle.dcc_wire.specs.OutcomeLaws.{OutcomesAreRows, NoOutcomeIsUnfinished, SomeRowFits, OneRowFits};
 ghost use Rattle.dcc_wire.specs.OutcomeLaws.{NoRowIsUnfinished};
 ghost use Rattle.dcc_wire.specs.Recovery.{NoiseCostsNoLaterPacket, NoiseCostsAtMostTheFirst, OpenBodiesEndSoon};
 ghost use Rattle.dcc_wire.specs.Recovery.{NoiseBetweenBodiesCostsNothing, LongPreamblesLoseNothing};
-ghost use Rattle.dcc_wire.specs.Recovery.{OneOfThreeCopiesIsSeen};
+ghost use Rattle.dcc_wire.specs.Recovery.{OneOfThreeCopiesIsSeen, OneOfThreeCopiesIsSeenAfterNoise};
 ghost use Rattle.dcc_wire.specs.Sending.{Sent, sent_all, at_last_halves, AllFrames};
 
 /// Theorem: a framer that hears sent packets one after the other sees each packet at its last
@@ -32,6 +32,7 @@ pub fn classes_decide_the_outcomes()
 ///
 /// A station sends ones of 55 to 61 and zeros of 95 to 9900 microseconds. With an error of at most
 /// 3 microseconds, the measured half-bits are within 52 to 64 and within 90 to 10000 microseconds.
+/// With the nominal half-bits of 58 and 100 microseconds, the error can be 6 microseconds.
 #[tactic(auto, using(crate::proofs::FramerSteps::measuring))]
 pub fn measured_packets_are_seen()
     // A framer sees each packet at its last half-bit, and nothing else.
@@ -41,6 +42,15 @@ pub fn measured_packets_are_seen()
     ensures anywhere { (packets : List Sent) (before measured after : List ℕ)
         → AreWithin 3 (sent_all packets) measured
         → seen (before ++ measured ++ after) ≡ seen (before ++ sent_all packets ++ after) }
+    // The half-bits of the station can differ from bit to bit, each within its limits.
+    ensures varied { (packets : List Sent) (durations measured : List ℕ) → AllFrames packets
+        → CanBeSentAs packets durations → AreWithin 3 durations measured → seen measured ≡ at_last_halves 0 packets }
+    ensures varied_anywhere { (packets : List Sent) (before durations measured after : List ℕ)
+        → CanBeSentAs packets durations → AreWithin 3 durations measured
+        → seen (before ++ measured ++ after) ≡ seen (before ++ sent_all packets ++ after) }
+    // An error of at most 6 microseconds loses no packet with the nominal durations.
+    ensures nominal { (packets : List Sent) (measured : List ℕ) → AllFrames packets → AllNominal packets
+        → AreWithin 6 (sent_all packets) measured → seen measured ≡ at_last_halves 0 packets }
 {}
 
 /// Theorem: noise costs at most the first packet that is sent after it.
@@ -64,10 +74,12 @@ pub fn noise_costs_at_most_the_first_packet()
     ensures long { LongPreamblesLoseNothing }
 {}
 
-/// Theorem: let noise replace one of three copies of a packet in a row. A framer then sees one of
-/// the other two copies at its last half-bit.
+/// Theorem: let a new framer take whole packets, and then three copies of a packet in a row, one of
+/// which noise replaces. It then sees one of the other two copies at its last half-bit. It also does so
+/// if any half-bits come before the whole packets, and at least one packet is whole.
 pub fn one_of_three_copies_is_seen()
-    ensures { OneOfThreeCopiesIsSeen }
+    ensures whole { OneOfThreeCopiesIsSeen }
+    ensures after_noise { OneOfThreeCopiesIsSeenAfterNoise }
 {}
 
 /// Theorem: if a list of half-bits is a prefix of a longer list, its outcomes are a prefix of the

@@ -5,6 +5,7 @@
 //! This crate does not allocate memory.
 #![tactic(auto)]
 
+mod byte_bits;
 mod bytes;
 mod frame;
 mod framer;
@@ -13,8 +14,6 @@ mod halves;
 mod kept;
 pub mod laws;
 mod many;
-mod open_body;
-mod packed_bits;
 mod run;
 mod seen;
 mod timing;

@@ -1,6 +1,6 @@
 //! Functions that push a list of half-bits to a framer.
 
-use crate::framer::{State, begins_body, counted};
+use crate::kept::{KeptFramer, begins_body, counted};
 use crate::{Framer, Half, Seen};
 
 /// The outcome of a list of half-bits.
@@ -43,7 +43,7 @@ impl Framer {
         ensures within { result.at ≤ length halves.now }
         ensures hunts { result.seen ≢ Seen.Nothing → self.new ≡ Hunting (ones_left result.seen) }
     {
-        let _ = &self.state;
+        let _ = &self.kept;
         let mut at = 0;
         'halves: while at < halves.len() {
             let some = self.push_some_of(&halves[at..]);
@@ -67,7 +67,7 @@ impl Framer {
         requires { 0 < length halves.now }
         ensures { PushesSome self.old halves.now result self.new }
     {
-        let at = self.pass_some_of(halves);
+        let at = self.kept.pass_some(halves);
         if at == halves.len() {
             return ManySeen {
                 seen: Seen::Nothing,
@@ -77,21 +77,26 @@ impl Framer {
         let seen = self.push(halves[at]);
         ManySeen { seen, at: at + 1 }
     }
+}
+
+impl KeptFramer {
+    ghost use Rattle.std.specs.Prelude.{◌≤◌, length, take};
+    ghost use Rattle.dcc_wire.specs.Kept.{IsKept, kept_rest};
+    ghost use Rattle.dcc_wire.specs.Inner.Lists.{PassesList};
 
     /// Takes half-bits at the beginning of `halves` that have no outcome. Returns their number.
     #[inline(always)]
-    fn pass_some_of(&mut self, halves: &[u16]) -> usize
-        ensures passes { PassesList self.old (take result halves.now) self.new }
+    pub fn pass_some(&mut self, halves: &[u16]) -> usize
+        ensures is { IsKept self.new }
+        ensures passes { PassesList (kept_rest self.old) (take result halves.now) (kept_rest self.new) }
         ensures count { result ≤ length halves.now }
     {
-        match &mut self.state {
-            State::Hunting(ones) => {
-                let hunted = hunt(*ones, halves);
-                *ones = hunted.ones;
-                hunted.at
-            }
-            State::InBody(body) => body.pass(halves),
+        if self.in_body {
+            return self.pass_bits(halves);
         }
+        let hunted = hunt(self.ones, halves);
+        self.ones = hunted.ones;
+        hunted.at
     }
 }
 

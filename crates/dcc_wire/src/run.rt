@@ -35,7 +35,7 @@ impl Framer {
         ensures hunts { result.seen ≢ Seen.Nothing → self.new ≡ Hunting (ones_left result.seen) }
     {
         if n > 1 {
-            if let Some(seen) = self.take_bit(Half::of(us)) {
+            if let Some(seen) = self.kept.take_bit(Half::of(us)) {
                 return RunSeen { seen, at: 2 };
             }
         }
@@ -79,7 +79,7 @@ impl Framer {
             return RunSeen { seen, at: 1 };
         }
         // the prover knows the invariant of a type if the code names one of the fields
-        let _ = &self.state;
+        let _ = &self.kept;
         self.push_by_bits(us, n)
     }
 
@@ -89,7 +89,7 @@ impl Framer {
     {
         let half = Half::of(us);
         let mut at = 0;
-        while !self.is_quiet(half) {
+        while !self.kept.is_quiet(half) {
             if at == n {
                 return RunSeen {
                     seen: Seen::Nothing,
@@ -100,14 +100,31 @@ impl Framer {
             let seen = some.seen;
             at += some.at;
             if !seen.is_nothing() {
-                self.skip(half, n - at);
+                self.kept.skip(half, n - at);
                 return RunSeen { seen, at };
             }
         }
-        self.skip(half, n - at);
+        self.kept.skip(half, n - at);
         RunSeen {
             seen: Seen::Nothing,
             at: n,
         }
+    }
+}
+
+ghost use Rattle.std.specs.Prelude.{◌≡◌};
+ghost use Rattle.dcc_wire.specs.Runs.{ones_after};
+
+/// Returns the number of half-bits of ones, counted up to 20, after `ones` half-bits of ones and
+/// `n` half-bits of the class `half`, which begin no body.
+pub(crate) fn count_on(ones: u8, half: Half, n: u32) -> u8
+    ensures { result ≡ ones_after ones half n }
+{
+    if n == 0 {
+        return ones;
+    }
+    match half {
+        Half::One => n.saturating_add(u32::from(ones)).min(20) as u8,
+        Half::Zero | Half::Bad => 0,
     }
 }

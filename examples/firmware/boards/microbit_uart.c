@@ -1,5 +1,6 @@
-/* The serial line of a BBC micro:bit (nRF51822): the UART, which the USB port of the board carries, at 115,200 baud. An
- * interrupt takes each byte, so no byte is lost while the main loop computes. */
+/* The serial line of a BBC micro:bit (nRF51822): the UART, which the USB port of the board carries, at 115,200 baud.
+ * Its interrupt calls on_byte for each byte, so no byte is lost while the main loop computes. The interrupt also wakes
+ * the main loop when a byte of an answer has left. */
 #include "board.h"
 #include "interrupts.h"
 #include <stdatomic.h>
@@ -20,47 +21,38 @@ enum { UART_IRQ = 2, TX_PIN = 24, RX_PIN = 25, BAUD_115200 = 0x01d7e000 };
 #define UART_BAUDRATE REGISTER(0x40002524)
 #define NVIC_ENABLE REGISTER(0xe000e100)
 
-/* Bytes that the interrupt has written and the main loop has not read. The numbers count modulo 256. */
-static char bytes[256];
-static atomic_uchar written, read;
+/* True while a byte of an answer leaves. */
+static atomic_bool is_sending;
 
-/* A byte has come. */
+/* A byte has come, or has left. */
 void on_irq2(void) {
     while (UART_RXDRDY != 0) {
-        unsigned char place = written;
         UART_RXDRDY = 0;
-        bytes[place] = (char)UART_RXD;
-        if ((unsigned char)(place + 1) != read) written = (unsigned char)(place + 1);
+        on_byte(0, (char)UART_RXD);
+    }
+    if (UART_TXDRDY != 0) {
+        UART_TXDRDY = 0;
+        is_sending = false;
     }
 }
 
-static void begin(void) {
-    static bool has_begun;
-    if (has_begun) return;
-    has_begun = true;
+void begin_serial(void) {
     UART_PSELTXD = TX_PIN;
     UART_PSELRXD = RX_PIN;
     UART_BAUDRATE = BAUD_115200;
     UART_ENABLE = 4;
-    UART_INTENSET = 1 << 2; /* RXDRDY */
+    UART_INTENSET = 1 << 2 | 1 << 7; /* RXDRDY and TXDRDY */
     NVIC_ENABLE = 1 << UART_IRQ;
     UART_STARTRX = 1;
     UART_STARTTX = 1;
 }
 
-bool take_byte(char *c) {
-    begin();
-    if (read == written) return false;
-    *c = bytes[read];
-    read = (unsigned char)(read + 1);
-    return true;
+bool has_room(uint8_t port) {
+    return port == 0 && !is_sending;
 }
 
-void show(const char *text) {
-    begin();
-    for (; *text; text++) {
-        UART_TXDRDY = 0;
-        UART_TXD = (uint8_t)*text;
-        while (UART_TXDRDY == 0) {}
-    }
+void give_byte(uint8_t port, char c) {
+    (void)port;
+    is_sending = true;
+    UART_TXD = (uint8_t)c;
 }

@@ -6,27 +6,32 @@
 #include <stdatomic.h>
 
 static dcc_station station;
-static dcc_sender sender;
+
+/* The packet on the track, and an idle packet. Only the interrupt uses them after main has begun the idle packet. */
+static dcc_sender sender, idle;
 
 /* The packet after the one on the track. The main loop writes it if it is not ready, and the interrupt reads it if
  * it is ready. */
-static dcc_frame next;
+static dcc_sender next;
 static atomic_bool is_ready;
 
-/* Finding the next packet can take milliseconds on a small chip, so the interrupt does not do it. If the main loop
- * is late, an idle packet is sent: the track always has a signal. */
+static const dcc_timing timing = DCC_MAIN_TIMING;
+
+/* Finding and starting the next packet can take milliseconds on a small chip, so the interrupt does neither. If the
+ * main loop is late, an idle packet is sent: the track always has a signal. */
 uint16_t on_timer(void) {
-    static const dcc_timing timing = DCC_MAIN_TIMING;
-    static const uint8_t idle[3] = {0xff, 0x00, 0xff};
     uint16_t us = dcc_sender_half(&sender);
     if (us > 0) return us;
-    if (is_ready) {
-        dcc_sender_start(&sender, next.bytes, next.len, &timing);
-    } else {
-        dcc_sender_start(&sender, idle, sizeof idle, &timing);
-    }
+    sender = is_ready ? next : idle;
     is_ready = false;
     return dcc_sender_half(&sender);
+}
+
+static void prepare(void) {
+    dcc_frame frame;
+    dcc_station_next(&station, &frame);
+    dcc_sender_start(&next, frame.bytes, frame.len, &timing);
+    is_ready = true;
 }
 
 static void tell(const char *refusal, uint8_t number) {
@@ -48,15 +53,14 @@ static void command(const char *line, uint32_t len) {
 }
 
 int main(void) {
+    static const uint8_t idle_packet[3] = {0xff, 0x00, 0xff};
     static char line[LINE];
     uint32_t len;
     if (dcc_station_new(&station, 16, 32, 2)) return 1;
+    dcc_sender_start(&idle, idle_packet, sizeof idle_packet, &timing);
     do {
         while (next_line(line, &len)) command(line, len);
-        if (!is_ready) {
-            dcc_station_next(&station, &next);
-            is_ready = true;
-        }
+        if (!is_ready) prepare();
     } while (wait_for_interrupt());
     return 0;
 }

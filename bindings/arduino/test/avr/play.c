@@ -5,6 +5,8 @@
  *   -t PIN=FILE     a track: the durations of FILE in microseconds, from 50 ms on, are the levels of the pin
  *   -s PIN=FILE     writes the durations between the changes of the pin to FILE, each on a line
  *   -l FILE         lines for the serial port, from 50 ms on. A line `wait N` waits N milliseconds instead
+ *   -m FILE         such lines for the second serial port (Serial1)
+ *   -o FILE         writes what the sketch writes on the second serial port to FILE
  *   -e FILE         the EEPROM: read at the start if the file exists, and written at the end
  *
  * PIN is the letter of a port and the number of a bit, for example B0. A track that is shorter than the given
@@ -24,9 +26,18 @@
 /* cycles of a microsecond, of a byte at 115,200 baud with a little rest, and of four ticks of the timer of edges */
 enum { PER_US = 16, BYTE = 1400, TICKS = 32 };
 static avr_t *avr;
-static FILE *track, *sent, *typed;
+static FILE *track, *sent, *second;
 static const char *eeprom;
-static avr_irq_t *track_pin, *serial;
+static avr_irq_t *track_pin;
+
+/* Lines that come to a serial port. */
+typedef struct {
+    FILE *file;
+    avr_irq_t *port;
+    char line[256];
+    size_t at;
+} typist;
+static typist typists[2];
 static unsigned long long end, exact, last_change;
 static int level, changes;
 static uint32_t sent_level;
@@ -71,19 +82,18 @@ static avr_cycle_count_t on_edge(avr_t *of, avr_cycle_count_t when, void *param)
 }
 
 static avr_cycle_count_t on_type(avr_t *of, avr_cycle_count_t when, void *param) {
-    static char line[256];
-    static size_t at;
+    typist *it = param;
     unsigned long wait;
-    (void)of, (void)param;
-    if (!line[at]) {
-        at = 0;
-        if (!fgets(line, sizeof line, typed)) return 0;
-        if (sscanf(line, "wait %lu", &wait) == 1) {
-            line[0] = 0;
+    (void)of;
+    if (!it->line[it->at]) {
+        it->at = 0;
+        if (!fgets(it->line, sizeof it->line, it->file)) return 0;
+        if (sscanf(it->line, "wait %lu", &wait) == 1) {
+            it->line[0] = 0;
             return when + wait * 1000 * PER_US;
         }
     }
-    avr_raise_irq(serial, (uint8_t)line[at++]);
+    avr_raise_irq(it->port, (uint8_t)it->line[it->at++]);
     return when + BYTE;
 }
 
@@ -98,9 +108,24 @@ static void on_change(avr_irq_t *irq, uint32_t value, void *param) {
     last_change = avr->cycle;
 }
 
+/* The parameter is the number of the serial port. */
 static void on_byte(avr_irq_t *irq, uint32_t value, void *param) {
-    (void)irq, (void)param;
-    if (value != '\r') putchar((int)value);
+    FILE *file = (intptr_t)param == 0 ? stdout : second;
+    (void)irq;
+    if (file && value != '\r') putc((int)value, file);
+}
+
+/* Begins a serial port, '0' or '1', if the chip has it. */
+static void begin_port(char name) {
+    typist *it = &typists[name - '0'];
+    uint32_t flags = 0;
+    if (avr_ioctl(avr, AVR_IOCTL_UART_GET_FLAGS(name), &flags) < 0) return;
+    flags &= ~(uint32_t)(AVR_UART_FLAG_STDIO | AVR_UART_FLAG_POLL_SLEEP);
+    avr_ioctl(avr, AVR_IOCTL_UART_SET_FLAGS(name), &flags);
+    avr_irq_register_notify(avr_io_getirq(avr, AVR_IOCTL_UART_GETIRQ(name), UART_IRQ_OUTPUT), on_byte,
+                            (void *)(intptr_t)(name - '0'));
+    it->port = avr_io_getirq(avr, AVR_IOCTL_UART_GETIRQ(name), UART_IRQ_INPUT);
+    if (it->file) avr_cycle_timer_register(avr, exact, on_type, it);
 }
 
 static avr_irq_t *pin_of(const char *text) {
@@ -124,7 +149,6 @@ static void with_eeprom(int is_end) {
 
 int main(int argc, char **argv) {
     elf_firmware_t firmware;
-    uint32_t flags = 0;
     int output = dup(1);
     if (argc < 4) die("play MCU PROGRAM.elf MILLISECONDS [OPTION ARGUMENT]..");
     memset(&firmware, 0, sizeof firmware);
@@ -153,19 +177,19 @@ int main(int argc, char **argv) {
             avr_irq_register_notify(pin_of(word), on_change, 0);
             break;
         case 'l':
-            if (!(typed = fopen(word, "r"))) die("no lines");
-            avr_cycle_timer_register(avr, exact, on_type, 0);
+        case 'm':
+            if (!(typists[argv[i][1] == 'm'].file = fopen(word, "r"))) die("no lines");
+            break;
+        case 'o':
+            if (!(second = fopen(word, "w"))) die("no file for the second port");
             break;
         case 'e': eeprom = word; break;
         default: die("no such option");
         }
     }
     if (eeprom) with_eeprom(0);
-    avr_ioctl(avr, AVR_IOCTL_UART_GET_FLAGS('0'), &flags);
-    flags &= ~(uint32_t)(AVR_UART_FLAG_STDIO | AVR_UART_FLAG_POLL_SLEEP);
-    avr_ioctl(avr, AVR_IOCTL_UART_SET_FLAGS('0'), &flags);
-    avr_irq_register_notify(avr_io_getirq(avr, AVR_IOCTL_UART_GETIRQ('0'), UART_IRQ_OUTPUT), on_byte, 0);
-    serial = avr_io_getirq(avr, AVR_IOCTL_UART_GETIRQ('0'), UART_IRQ_INPUT);
+    begin_port('0');
+    begin_port('1');
     fflush(stdout);
     dup2(output, 1);
     while (avr->cycle < end) {
@@ -174,5 +198,6 @@ int main(int argc, char **argv) {
     }
     if (eeprom) with_eeprom(1);
     if (sent && fclose(sent)) die("the signal cannot be written");
+    if (second && fclose(second)) die("the second port cannot be written");
     return fflush(stdout) ? 1 : 0;
 }

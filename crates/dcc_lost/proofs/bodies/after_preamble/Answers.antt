@@ -1,4 +1,4 @@
-use Rattle.std.proofs.Common.{◌≡◌, [], replicate, arith, ap, ◌∙◌, subst, sym}
+use Rattle.std.proofs.Common.{◌≡◌, [], replicate, arith, ap, ◌∙◌, subst}
 use Rattle.std.proofs.lemmas.List.{replicate_more}
 use Rattle.dcc_wire.specs.Framing.{StandsFor}
 use Rattle.dcc_wire.specs.Kept.{kept_rest}
@@ -8,15 +8,15 @@ use Rattle.dcc_lost.proofs.bodies.after_preamble.Goals as goal
 pub ones-init : goal.ones-init
 ones-init c = record {
   few = omega arith;
-  stands = subst (λ rest. StandsFor rest []) (sym c.keep-framer.ensures) c.new.ensures;
+  stands = c.new-framer.ensures.stands;
 }
 
 pub ones-preserved : goal.ones-preserved
 ones-preserved c = record {
   few = omega arith;
-  stands = subst (StandsFor (kept_rest c.push_framer.new.framer))
+  stands = subst (StandsFor (kept_rest c.push.new.self))
       (replicate_more c.ones.ones 58 ∙ ap (λ k. replicate k 58) (omega arith))
-      (c.push_framer.ensures.stands (replicate c.ones.ones 58) c.ones.invariant.stands);
+      (c.push.ensures.stands (replicate c.ones.ones 58) c.ones.invariant.stands);
 }
 
 pub returns : goal.returns

@@ -9,18 +9,18 @@ halves-init c = at_first _ c.after_preamble-framer.ensures
 
 pub returns-then-not-is_nothing : goal.returns-then-not-is_nothing
 returns-then-not-is_nothing c =
-    let something : c.push_framer-seen.result ≢ Nothing = grind arith in
+    let something : c.push-seen.result ≢ Nothing = grind arith in
     (reads c.args.halves.now c.halves.us-index _ _ _ _ c.halves-test.true c.requires.zero c.halves.invariant
-    c.corrected.ensures (takes _ _ _ _ c.push_framer-seen.ensures.history c.push_framer-seen.ensures.stands
-    c.push_framer-seen.ensures.sees)).ends
+    c.corrected.ensures (takes _ _ _ _ c.push-seen.ensures.history c.push-seen.ensures.stands
+    c.push-seen.ensures.sees)).ends
     something
 
 pub halves-preserved : goal.halves-preserved
 halves-preserved c =
-    let nothing : c.push_framer-seen.result ≡ Nothing = grind arith in
+    let nothing : c.push-seen.result ≡ Nothing = grind arith in
     (reads c.args.halves.now c.halves.us-index _ _ _ _ c.halves-test.true c.requires.zero c.halves.invariant
-    c.corrected.ensures (takes _ _ _ _ c.push_framer-seen.ensures.history c.push_framer-seen.ensures.stands
-    c.push_framer-seen.ensures.sees)).goes_on
+    c.corrected.ensures (takes _ _ _ _ c.push-seen.ensures.history c.push-seen.ensures.stands
+    c.push-seen.ensures.sees)).goes_on
     nothing
 
 pub returns : goal.returns

@@ -1,4 +1,4 @@
-use Rattle.dcc_what.proofs.KindLemmas.{capture_measured, kind_of_capture, kind_of_bad_capture, kind_of_long_capture}
+use Rattle.dcc_what.proofs.KindLemmas.{capture_measured, kind_of_capture, kind_of_marked_capture, kind_of_long_capture}
 use Rattle.dcc_what.proofs.reading.capture_kind.Goals as goal
 
 pub returns-in-Ok : goal.returns-in-Ok
@@ -11,8 +11,9 @@ returns-in-Ok c =
 
 pub returns-in-Err-Number : goal.returns-in-Err-Number
 returns-in-Err-Number c =
-    kind_of_bad_capture c.args.bytes.now c.input_of-input.result c.measure.new.input c.in-Err-Number.line
-    c.input_of-input.ensures (rw c.in-Err-Number.field-0-is at c.in-Err-Number.ensures)
+    let kind = kind_of_marked_capture c.args.bytes.now c.input_of-input.result c.measure.new.input
+    c.in-Err-Number.line c.input_of-input.ensures (rw c.in-Err-Number.field-0-is at c.in-Err-Number.ensures) in
+    rw kind at c.marked_kind.ensures
 
 pub returns-in-Err-TooMuch : goal.returns-in-Err-TooMuch
 returns-in-Err-TooMuch c =

@@ -1,6 +1,6 @@
-use Rattle.std.proofs.Common.{◌≡◌, ℕ, ◌++◌, IsTrue, arith, replicate, subst}
+use Rattle.std.proofs.Common.{◌≡◌, ℕ, ◌++◌, arith, replicate, subst}
 use Rattle.dcc_lost.specs.MeasuresTrack.{MeasuresTrack}
-use Rattle.dcc_lost.proofs.RunLemmas.{run_more, run_none, run_split}
+use Rattle.dcc_lost.proofs.RunLemmas.{run_more, run_none}
 use Rattle.dcc_lost.proofs.figures.TrackFigures.push_run.Goals as goal
 
 pub run-init : goal.run-init
@@ -10,26 +10,14 @@ run-init c = record {
   measures = λ durations are. rw run_none are;
 }
 
-pub returns-then-pass_still-clause-measures : goal.returns-then-pass_still-clause-measures
-returns-then-pass_still-clause-measures c = λ durations are.
-    let before = durations ++ replicate c.run.at c.args.us in
-    let yes : IsTrue c.pass_still.result = grind arith in
-    subst (λ l. MeasuresTrack c.pass_still.new.self l)
-    (run_split durations c.args.us c.run.at c.args.n c.run.invariant.within)
-    (c.pass_still.ensures.measures yes before (c.run.invariant.measures durations are))
-
 pub run-preserved : goal.run-preserved
-run-preserved c =
-    let no = c.if-pass_still.false in
-    record {
-      within = omega arith;
-      count = omega (arith, c.push.ensures.count, c.pass_still.ensures.left_count no, c.run.invariant.count);
-      measures = λ durations are.
-          subst (λ l. MeasuresTrack c.push.new.self l) (run_more durations c.args.us c.run.at)
-          (c.push.ensures.measures (durations ++ replicate c.run.at c.args.us)
-          (c.pass_still.ensures.left no (durations ++ replicate c.run.at c.args.us)
-          (c.run.invariant.measures durations are)));
-    }
+run-preserved c = record {
+  within = omega arith;
+  count = omega (arith, c.push.ensures.count, c.run.invariant.count);
+  measures = λ durations are.
+      subst (λ l. MeasuresTrack c.push.new.self l) (run_more durations c.args.us c.run.at)
+      (c.push.ensures.measures (durations ++ replicate c.run.at c.args.us) (c.run.invariant.measures durations are));
+}
 
 pub returns-clause-measures : goal.returns-clause-measures
 returns-clause-measures c = λ durations are.

@@ -1,9 +1,7 @@
-use Rattle.std.proofs.Common.{ap, ◌∙◌, ◌≡◌, ◌+◌, ◌-◌, ◌++◌, IsTrue, List, ℕ, None, replicate, arith, subst, sym}
-use Rattle.dcc_lost.specs.Causes.{packets_lost}
+use Rattle.std.proofs.Common.{◌≡◌, ◌+◌, ◌++◌, List, ℕ, None, replicate, arith, subst}
 use Rattle.dcc_timing.specs.Recent.{recent_numbers}
 use Rattle.dcc_lost.specs.Finding.{HasRead, heard_state}
-use Rattle.dcc_lost.proofs.StillLemmas.{still_reads, still_quiet}
-use Rattle.dcc_lost.proofs.RunLemmas.{run_more, run_grows, run_quiet, run_ends, run_none, run_split}
+use Rattle.dcc_lost.proofs.RunLemmas.{run_more, run_grows, run_quiet, run_ends, run_none}
 use Rattle.dcc_lost.proofs.finder.LostFinder.push_run.Goals.{After-push-lost}
 use Rattle.dcc_lost.proofs.finder.LostFinder.push_run.Goals as goal
 
@@ -49,33 +47,3 @@ run-preserved c = record {
 pub returns-clause-grows : goal.returns-clause-grows
 returns-clause-grows c =
     λ durations read. run_ends durations c.args.us c.run.at _ (c.run.invariant.quiet durations read)
-
--- the list before the rest of the run
-quiet_next : (c : goal.After-push-lost) (durations : List ℕ) → c.push-lost.result ≡ None
-    → HasRead (heard_state c.args.self.now.heard) (recent_numbers c.args.self.now.recent)
-    (recent_numbers c.args.self.now.unused) durations
-    → packets_lost (durations ++ replicate (c.run.at + 1) c.args.us) ≡ packets_lost durations
-quiet_next c durations none read =
-    run_quiet durations c.args.us (c.run.at + 1) _ _ none
-    (run_grows durations c.args.us c.run.at _ (c.run.invariant.quiet durations read)
-    (c.push-lost.ensures.grows (durations ++ replicate c.run.at c.args.us) (c.run.invariant.reads durations read)))
-
-pub returns-then-is_still-clause-reads : goal.returns-then-is_still-clause-reads
-returns-then-is_still-clause-reads c = λ durations read.
-    let step = (goal.at.returns-then-is_still-clause-reads c).After-push-lost in
-    let yes : IsTrue c.is_still.result = grind arith in
-    subst (λ l. HasRead (heard_state c.push-lost.new.self.heard) (recent_numbers c.push-lost.new.self.recent)
-    (recent_numbers c.push-lost.new.self.unused) l)
-    (run_split durations c.args.us (c.run.at + 1) c.args.n (omega arith))
-    (still_reads _ _ _ (durations ++ replicate (c.run.at + 1) c.args.us) c.args.us (c.args.n - (c.run.at + 1))
-    (read_next step durations read) (c.is_still.ensures.0 yes))
-
-pub returns-then-is_still-clause-grows : goal.returns-then-is_still-clause-grows
-returns-then-is_still-clause-grows c = λ durations read.
-    let step = (goal.at.returns-then-is_still-clause-grows c).After-push-lost in
-    let yes : IsTrue c.is_still.result = grind arith in
-    run_ends durations c.args.us c.args.n _
-    (ap packets_lost (sym (run_split durations c.args.us (c.run.at + 1) c.args.n (omega arith)))
-    ∙ still_quiet _ _ _ (durations ++ replicate (c.run.at + 1) c.args.us) c.args.us (c.args.n - (c.run.at + 1))
-    (read_next step durations read) (c.is_still.ensures.0 yes)
-    ∙ quiet_next step durations (grind arith) read)

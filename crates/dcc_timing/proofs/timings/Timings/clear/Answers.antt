@@ -1,6 +1,5 @@
-use Rattle.std.proofs.Common.{[], arith, subst, sym}
+use Rattle.std.proofs.Common.{[], arith}
 use Prim.{∣◌∣₁}
-use Rattle.dcc_wire.specs.Framing.{Rest, StandsFor}
 use Rattle.dcc_wire.specs.Kept.{kept_rest}
 use Rattle.dcc_timing.specs.Measured.{AreMeasured}
 use Rattle.dcc_timing.specs.Recent.{recent_numbers}
@@ -10,13 +9,13 @@ use Rattle.dcc_timing.proofs.timings.Timings.clear.Goals as goal
 
 -- the statistics of the empty list
 none : (c : After-clear)
-    → AreMeasured 0 0 c.new-self.result c.new-self-2.result c.new-self-3.result (kept_rest c.keep-self.result)
+    → AreMeasured 0 0 c.new-self.result c.new-self-2.result c.new-self-3.result (kept_rest c.new-self-4.result)
     (recent_numbers c.clear.new.self) []
 none c =
-    measures_none c.new-self.result c.new-self-2.result c.new-self-3.result (kept_rest c.keep-self.result)
+    measures_none c.new-self.result c.new-self-2.result c.new-self-3.result (kept_rest c.new-self-4.result)
     (recent_numbers c.clear.new.self)
     c.new-self.ensures.classes c.new-self-2.ensures.outcomes c.new-self-3.ensures.bits c.new-self-3.ensures.gaps
-    (subst (λ (rest : Rest). StandsFor rest []) (sym c.keep-self.ensures) c.new.ensures) c.clear.ensures
+    c.new-self-4.ensures.stands c.clear.ensures
 
 pub returns : goal.returns
 returns c = none (goal.at.returns c).After-clear

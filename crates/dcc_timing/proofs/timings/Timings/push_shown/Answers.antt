@@ -1,4 +1,4 @@
-use Rattle.std.proofs.Common.{◌≡◌, ◌+◌, ◌-◌, ◌*◌, ◌++◌, ◌∷◌, [], List, ℕ, ap, append-nil, arith, length, subst}
+use Rattle.std.proofs.Common.{◌≡◌, ◌+◌, ◌-◌, ◌*◌, ◌++◌, ◌∷◌, [], List, ℕ, ap, arith, length, subst}
 use Rattle.std.proofs.Common.{sum, sym, ◌∙◌}
 use Rattle.std.proofs.Math.Logic.{∥∥₁_map}
 use Rattle.dcc_wire.specs.declared.seen.Seen.{Seen}
@@ -19,13 +19,13 @@ use Rattle.dcc_timing.proofs.timings.Timings.push_shown.Goals as goal
 -- the list with this half-bit at its end is measured, for each list that was
 measured : (c : After-add-2) (halves : List ℕ) → Measures c.args.self.now halves
     → AreMeasured c.count_half.new.halves c.count_half.new.time
-    c.count_half.new.classes c.add.new.self c.add-2.new.self (kept_rest c.push_apart-seen.new.framer)
+    c.count_half.new.classes c.add.new.self c.add-2.new.self (kept_rest c.push_shown-seen.new.self)
     (recent_numbers c.count_half.new.recent)
     (halves ++ c.args.us ∷ [])
 measured c halves are =
     let us = c.args.us in
-    let shown = c.push_apart-seen.result in
-    let sees = c.push_apart-seen.ensures.sees halves are.framer in
+    let shown = c.push_shown-seen.result in
+    let sees = c.push_shown-seen.ensures.sees halves are.framer in
     let shows : Shows halves (us ∷ []) (length halves + 1 - 1) shown =
     sees ∙ ap (λ n. seen halves ++ report_at n shown) (omega arith) in
     let recent = half_behind halves us (recent_numbers c.args.self.now.recent) (recent_numbers c.count_half.new.recent)
@@ -44,7 +44,7 @@ measured c halves are =
       gaps = subst (λ (l : List ℕ). AreGaps c.add-2.new.self.gaps l)
           (sym (ends_run halves us 1 1 shown (omega arith) (omega arith) shows _ time))
           (c.add-2.ensures.gaps (ends_in halves) are.gaps);
-      framer = c.push_apart-seen.ensures.stands halves are.framer;
+      framer = c.push_shown-seen.ensures.stands halves are.framer;
       recent = recent;
     }
 
@@ -59,14 +59,10 @@ pub returns-clause-history : goal.returns-clause-history
 returns-clause-history c = c.args.self.now.history
 
 pub returns-clause-sees : goal.returns-clause-sees
-returns-clause-sees c = λ halves are. c.push_apart-seen.ensures.sees halves are.framer
+returns-clause-sees c = λ halves are. c.push_shown-seen.ensures.sees halves are.framer
 
 pub returns-clause-measures : goal.returns-clause-measures
 returns-clause-measures c = measured (goal.at.returns-clause-measures c).After-add-2
 
 pub returns-clause-something : goal.returns-clause-something
-unfolding report_at
-returns-clause-something c = λ none.
-    let list = c.push_apart-seen.ensures.history in
-    let same = rw none at c.push_apart-seen.ensures.sees list.0 list.1 in
-    c.requires.shows list.0 list.1 (same ∙ append-nil (seen list.0))
+returns-clause-something c = c.push_shown-seen.ensures.something

@@ -6,4 +6,5 @@ pub returns-in-Some : goal.returns-in-Some
 returns-in-Some c =
     let bit = c.in-Some.ensures in
     let two = two_more _ c.args.us c.of.ensures bit.first bit.after bit.answer in
-    record { stands = two.0; sees = two.1; before = two.2; some = omega arith; hunts = bit.hunts }
+    rw (← c.self.view_is)
+    (record { stands = two.0; sees = two.1; before = two.2; some = omega arith; hunts = bit.hunts })

@@ -10,6 +10,7 @@ bytes-init c =
       unfinished = λ some. absurd (some refl);
       has = rw (← c.self.view_is) (record { in_body = c.if-not-self.false; whole = c.if-self.false });
       none = λ none. refl;
+      is = rw (← c.self.view_is) c.self.invariant;
       inside = omega arith;
     }
 
@@ -29,6 +30,7 @@ bytes-preserved c =
       unfinished = λ some. more.unfinished;
       has = record { in_body = more.in_body; whole = more.whole };
       none = λ none. absurd (omega (arith, none, c.if-more-eq0.false));
+      is = more.is;
       inside = rest_inside c.args.halves.now c.bytes.at c.pass_byte-more.result before.inside more.count;
     }
 

@@ -1,4 +1,5 @@
 use Rattle.std.proofs.Common.{◌≡◌, ◌≢◌, length, ◌-◌, ◌≤◌, take, None}
+use Rattle.dcc_wire.specs.Kept.{IsKept}
 use Rattle.dcc_wire.specs.Outcomes.{bytes_in}
 use Rattle.dcc_wire.proofs.KeptLists.{HasWholeBits, bits_kept}
 use Rattle.dcc_wire.proofs.PassedBits.{AddsBits}
@@ -10,6 +11,7 @@ invariant-bytes l = record {
   unfinished : l.at ≢ 0 → bytes_in 6 (bits_kept l.self) ≡ None;
   has : HasWholeBits l.self;
   none : l.at ≡ 0 → l.self ≡ l.fn.self;
+  is : IsKept l.self;
   inside : l.at ≤ length l.halves;
 }
 

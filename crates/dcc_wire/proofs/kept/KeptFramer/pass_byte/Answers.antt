@@ -23,6 +23,9 @@ invariant_of-self c =
     (record { in_body = known.in_body; whole = known.whole }) packed
     (adds_packed c.self.inside.bytes _ _ _ _ _ c.bits_of_byte-part.ensures.bits)
 
+pub returns-then-part-lt9-clause-is : goal.returns-then-part-lt9-clause-is
+returns-then-part-lt9-clause-is c = invariant_of-self c
+
 pub returns-then-part-lt9-clause-unfinished : goal.returns-then-part-lt9-clause-unfinished
 returns-then-part-lt9-clause-unfinished c =
     let known = rw (← c.self.view_is) at c.requires in (invariant_of-self c).unfinished known.in_body
@@ -42,6 +45,9 @@ invariant_of-self-2 c =
     (record { in_body = known.in_body; whole = known.whole })
     (whole_packed c.bits_of_byte-part.result.shift (c.self.invariant.packed known.in_body) room small)
     (adds_byte bytes _ _ _ _ small (rw nine at (adds_packed bytes _ _ _ _ _ part.bits))))
+
+pub returns-clause-is : goal.returns-clause-is
+returns-clause-is c = invariant_of-self-2 c
 
 pub returns-clause-bits : goal.returns-clause-bits
 returns-clause-bits c =

@@ -10,6 +10,9 @@ invariant_of-self c =
     let seen = rw (← c.self.view_is) at c.outcome-seen.ensures in
     hunts_again c.self.invariant c.args.half shows _ (c.ones_left-self-inside.ensures ∙ ap ones_left seen)
 
+pub returns-clause-is : goal.returns-clause-is
+returns-clause-is c = invariant_of-self c
+
 pub returns-clause-after : goal.returns-clause-after
 returns-clause-after c =
     let shows = c.requires in
