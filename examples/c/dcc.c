@@ -502,7 +502,7 @@ static const char *const general_help =
     "Digital Command Control: captures and packets, in C\n\n"
     "Usage: dcc <COMMAND>\n\n"
     "Commands:\n"
-    "  show    Lists the packets and the rejected packets of a capture\n"
+    "  show    Lists the packets and the refused packets of a capture\n"
     "  lost    Lists the packets of a capture that a decoder does not hear, with the causes\n"
     "  encode  Writes the half-bits that a station sends for packet lines\n\n"
     "Options:\n"
@@ -510,7 +510,7 @@ static const char *const general_help =
     "  -V, --version  Print version\n";
 
 static const char *const show_help =
-    "Lists the packets and the rejected packets of a capture\n\n"
+    "Lists the packets and the refused packets of a capture\n\n"
     "Usage: dcc show [OPTIONS]\n\n"
     "Options:\n"
     "      --words  Write packets as packet lines, not in hex\n"

@@ -7,7 +7,9 @@
  * Leonardo. On any other board the signal comes to pin 2, each edge calls an interrupt, and micros() measures.
  *
  * For boards that are made for NmraDcc, a sketch for an AVR can define DCC_EDGES_ON_PIN_2 before it includes this file.
- * Then the signal comes to pin 2, each edge calls an interrupt, and micros() measures, so all timers are free. */
+ * Then the signal comes to pin 2, each edge calls an interrupt, and micros() measures, so all timers are free. If the
+ * sketch defines DCC_EDGES_BY_TIMER_2 too, timer 2 measures to half a microsecond. A sketch with the library Servo
+ * needs it, since the interrupts of servos delay the call. */
 #ifndef DCC_EDGES_H
 #define DCC_EDGES_H
 
@@ -99,27 +101,55 @@ enum { DCC_EDGE_PIN = 2 };
 static uint32_t dccLastEdge;
 
 #ifdef __AVR__
-/* micros() of an AVR has steps of 4 microseconds, and another interrupt delays the call, for example that of a byte of
- * the serial port by 7 microseconds. So a duration that no half-bit has counts as the nearest one of a half-bit, if the
- * two differ by at most 12 microseconds. */
+/* micros() of an AVR has steps of 4 microseconds. Another interrupt delays the call, for example that of a byte of the
+ * serial port by 7 microseconds, and that of servos by 19. So a duration that no half-bit has counts as the nearest one
+ * of a half-bit, as if the edges are at most 20 microseconds late: a one of 58 microseconds has 38 to 78 then. */
 static uint16_t dccNearest(uint16_t us) {
-    if (us >= 40 && us < 52) return 52;
-    if (us > 64 && us <= 76) return 64;
-    if (us > 76 && us < 90) return 90;
+    if (us >= 38 && us < 52) return 52;
+    if (us > 64 && us <= 78) return 64;
+    if (us > 78 && us < 90) return 90;
     return us;
 }
 #else
 static DCC_IN_RAM uint16_t dccNearest(uint16_t us) { return us; }
 #endif
 
+#ifdef DCC_EDGES_BY_TIMER_2
+#if !defined(__AVR__) || !defined(TCNT2) || F_CPU != 16000000L
+#error "DccEdges.h knows no timer 2 of this chip at this frequency."
+#endif
+static uint8_t dccLastCount;
+
+/* Begins to count half microseconds, from 0 to 255 again and again. */
+static void dccBeginCount() {
+    TIMSK2 = 0;
+    TCCR2A = 0;
+    TCCR2B = 1 << CS21;
+}
+
+/* Returns the duration since the last edge. It differs by less than 64 microseconds from `us`, which micros() gave. */
+static uint32_t dccExact(uint32_t us, uint8_t count) {
+    int8_t more = (int8_t)(uint8_t)(count - dccLastCount - (uint8_t)(2 * us));
+    dccLastCount = count;
+    return us + more / 2;
+}
+#define DCC_EDGE_COUNT TCNT2
+#else
+static void dccBeginCount() {}
+static DCC_IN_RAM uint32_t dccExact(uint32_t us, uint8_t) { return us; }
+#define DCC_EDGE_COUNT 0
+#endif
+
 static DCC_IN_RAM void dccOnEdge() {
-    uint32_t now = micros(), us = now - dccLastEdge;
+    uint8_t count = DCC_EDGE_COUNT;
+    uint32_t now = micros(), us = dccExact(now - dccLastEdge, count);
     dccLastEdge = now;
     onHalfBit(dccNearest(us > 65535 ? 65535 : (uint16_t)us));
 }
 
 /* Begins to measure. */
 inline void beginEdges() {
+    dccBeginCount();
     dccLastEdge = micros();
     attachInterrupt(digitalPinToInterrupt(DCC_EDGE_PIN), dccOnEdge, CHANGE);
 }

@@ -42,7 +42,7 @@ fn show<'a>(alloc: Global) -> Result<Command<'a>, AllocError>
     ensures local { IfOk result (λ c. (fields_of c).has_globals ≡ false) }
 {
     Command::new(alloc, "show")
-        .about("Lists the packets and the rejected packets of a capture")
+        .about("Lists the packets and the refused packets of a capture")
         .after_help(help_texts::SHOW)
         .arg(flag(alloc, "words", "Write packets as packet lines, not in hex"))?
         .arg(flag(
@@ -146,7 +146,7 @@ fn timing<'a>(alloc: Global) -> Command<'a>
     ensures local { (fields_of result).has_globals ≡ false }
 {
     Command::new(alloc, "timing")
-        .about("Writes figures that compare the half-bits of a capture with the limits")
+        .about("Writes statistics that compare the half-bits of a capture with the limits")
         .after_help(help_texts::TIMING)
 }
 

@@ -1,5 +1,5 @@
-//! A locomotive that loses contact with the rails for a moment. The locomotive misses the packet
-//! that is sent at this moment, and at most the next packet.
+//! A locomotive that loses contact with the rails during the first packet of a track. The locomotive
+//! misses at most this packet and the next one.
 
 ghost use Rattle.std.specs.Prelude.{◌≡◌, ◌≤◌, ◌+◌, ◌∷◌, ◌++◌, ℕ, List, length, take, drop, IfOk};
 ghost use Rattle.dcc_wire.specs.Framing.{seen};

@@ -1,4 +1,4 @@
-//! A receiver whose clock has steps of 4 microseconds, such as `micros()` of an Arduino Uno.
+//! A receiver that rounds each duration down to a multiple of 4 microseconds.
 
 ghost use Rattle.std.specs.Prelude.{◌≡◌, List, IfOk};
 ghost use Rattle.dcc_wire.specs.Framing.{seen};

@@ -62,18 +62,18 @@ unfoldable pub AreServiceFrames : List (List ℕ) → Type 0
 AreServiceFrames [] = Unit {0}
 AreServiceFrames (frame ∷ frames) = IsServiceFrame frame × AreServiceFrames frames
 
--- let a decoder in service mode hear resets and service packets. Its service part and its CVs are
--- those of a decoder on the programming track that gets the frames, and so are the
--- acknowledgements.
+-- let a decoder that can hear both tracks be in service mode, and hear resets and service packets.
+-- Its service part and its CVs are those of a decoder on the programming track that gets the
+-- frames, and so are the acknowledgements.
 abbrev pub ServiceModeIsTheMachine : Type 0
 ServiceModeIsTheMachine =
     (before after : TrackState) (frames : List (List ℕ)) (answers : List TrackAnswer) → before.main_only ≡ false
     → before.progress.in_service ≡ true → AreServiceFrames frames → HearsFrames before frames after answers
     → Steps (service_part before) frames (service_part after) (map (λ answer. answer.acknowledged) answers)
 
--- let a decoder hear a reset, and then resets and service packets. Its service part and its CVs are
--- those of a decoder on the programming track that gets the frames, and so are the
--- acknowledgements.
+-- let a decoder that can hear both tracks hear a reset, and then resets and service packets. Its
+-- service part and its CVs are those of a decoder on the programming track that gets the frames,
+-- and so are the acknowledgements.
 abbrev pub ResetEntersTheMachine : Type 0
 ResetEntersTheMachine =
     (before after : TrackState) (frames : List (List ℕ)) (answers : List TrackAnswer) → before.main_only ≡ false

@@ -335,6 +335,7 @@ impl KeptFramer {
     }
 
     /// Takes a half-bit that ends the body, and returns the outcome.
+    #[inline(always)]
     pub(crate) fn take_apart(&mut self, half: Half) -> Seen
         requires { answer_to (kept_rest self.old) half ≢ Seen.Nothing }
         ensures is { IsKept self.new }
@@ -351,6 +352,7 @@ impl KeptFramer {
 
     /// Returns the outcome of the body, which ends with a half-bit of the class `half`. This
     /// half-bit is bad, or is the second half-bit of a bit.
+    #[inline(always)]
     fn outcome(&self, half: Half) -> Seen
         requires { answer_to (kept_rest self.now) half ≢ Seen.Nothing }
         ensures { result ≡ answer_to (kept_rest self.now) half }
@@ -392,6 +394,7 @@ impl KeptFramer {
     #[inline(always)]
     pub(crate) fn take_bit(&mut self, half: Half) -> Option<Seen>
         ensures is { IsKept self.new }
+        ensures takes { self.old.in_body ≡ true → self.old.has_first ≡ false → bit_of half ≢ None → result ≢ None }
         ensures none { IfNone result (self.new ≡ self.old) }
         ensures first { IfSome result (λ seen. answer_to (kept_rest self.old) half ≡ Seen.Nothing) }
         ensures after { IfSome result
