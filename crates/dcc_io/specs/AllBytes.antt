@@ -5,7 +5,7 @@ use Rattle.dcc_io.specs.declared.fault.KeptFault.TheVariants as kept
 use Rattle.dcc_io.specs.declared.fault.ToolFault.{ToolFault}
 use Rattle.dcc_io.specs.Faults.{ErrorPost}
 use Rattle.dcc_io.specs.ReaderState.{IsAtEnd}
-use Rattle.dcc_io.specs.InputState.{InputState}
+use Rattle.dcc_io.specs.InputState.{InputState, UsesAllLines}
 use Rattle.dcc_io.specs.Took.{FailsBehind, OverflowsBehind, LinesAt}
 
 -- the bytes of `text` before its last byte, which is the line feed that an input appends
@@ -17,6 +17,8 @@ bytes_of_text text = take (length text - 1) text
 pub record GivesAllBytes (old : InputState) (bytes : List ℕ) (new : InputState) : Type 0 where
   pub bytes_are : IfSome old.text (λ text. bytes ≡ bytes_of_text text)
   pub at_end : IsAtEnd new.text
+  pub lines : UsesAllLines old new
+  pub halves : new.halves ≡ old.halves
   pub fault : new.fault ≡ None
   pub failures : new.failures ≡ old.failures
 

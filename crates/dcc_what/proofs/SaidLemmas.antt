@@ -14,7 +14,13 @@ use Rattle.dcc_what.specs.Sentences.{what_text}
 module _ (old new : InputState) (before after : WriterState) (bytes text : List ℕ) (gives : GivesAllBytes old bytes new)
     (is : text ≡ what_text bytes) where
   read_all : ReadWhole old new
-  read_all = record { at_end = gives.at_end; fault = gives.fault; failures = gives.failures }
+  read_all = record {
+    at_end = gives.at_end;
+    lines = gives.lines;
+    halves = gives.halves;
+    fault = gives.fault;
+    failures = gives.failures;
+  }
 
   -- all was written
   pub says : Appends before.contents after.contents text × (after.failures ≡ before.failures)

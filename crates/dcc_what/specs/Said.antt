@@ -4,7 +4,7 @@ use Rattle.std.specs.Io.KnownBytes.{Appends}
 use Rattle.dcc_io.specs.declared.fault.ToolFault.{ToolFault}
 use Rattle.dcc_io.specs.AllBytes.{StopsAllBytes, bytes_of_text}
 use Rattle.dcc_io.specs.Calls.{CallPost}
-use Rattle.dcc_io.specs.InputState.{InputState}
+use Rattle.dcc_io.specs.InputState.{InputState, UsesAllLines}
 use Rattle.dcc_io.specs.ReaderState.{IsAtEnd}
 use Rattle.dcc_io.specs.WriterState.{WriterState}
 use Rattle.dcc_io.specs.WrittenBytes.{AppendsFront}
@@ -13,6 +13,8 @@ use Rattle.dcc_what.specs.Sentences.{what_text}
 -- the input was read from the state `old` to its end without an error, and is then in the state `new`
 pub record ReadWhole (old new : InputState) : Type 0 where
   pub at_end : IsAtEnd new.text
+  pub lines : UsesAllLines old new
+  pub halves : new.halves ≡ old.halves
   pub fault : new.fault ≡ None
   pub failures : new.failures ≡ old.failures
 
