@@ -123,7 +123,6 @@ static inline struct dcc_wide dcc_wide_xor(struct dcc_wide a, struct dcc_wide b)
 static uint8_t dcc_lost_figures_TrackFigures_try_push_run(unsigned char *a0, uint16_t a1, uint32_t a2);
 static DCC_NOINLINE void dcc_timing_tally_Tally_extend(unsigned char *a0, uint64_t a1);
 static DCC_NOINLINE void dcc_lost_figures_TrackFigures_push_shown(unsigned char *a0, uint16_t a1);
-static void dcc_wire_kept_KeptFramer_take_apart(unsigned char *a0, unsigned char *a1, uint8_t a2);
 static DCC_NOINLINE void dcc_timing_bits_Bits_add(unsigned char *a0, unsigned char *a1, uint64_t a2);
 static DCC_NOINLINE void dcc_timing_recent_LastNumbers_move_to_front(unsigned char *a0);
 static DCC_NOINLINE void dcc_lost_figures_Ended_count(unsigned char *a0, unsigned char *a1, unsigned char *a2, unsigned char *a3);
@@ -983,43 +982,6 @@ dcc_lost_figures_unused_next:;
     return;
 }
 
-/* dcc_wire::kept::KeptFramer::take_apart */
-static void dcc_wire_kept_KeptFramer_take_apart(unsigned char *a0, unsigned char *a1, uint8_t a2) {
-    uint64_t r1081, r3_2, r3_3, r3_4, r4, r9, r0_2, r0_3;
-    uint8_t r3, r1, r12, r13, r19, r38, brmerge, it, r68, r0;
-    if (a2 == 2u) { r1081 = UINT64_C(2); r3 = 0u; r3_2 = UINT64_C(0); r3_3 = UINT64_C(0); r3_4 = UINT64_C(0); r1 = 0u; goto dcc_wire_seen_Seen_ones_left; }
-    r12 = *(a1 + 3);
-    r13 = a2 == 0u;
-    r19 = r13;
-    r38 = r12 == r19;
-    brmerge = r38 & r13;
-    it = r38 ? 3u : 1u;
-    if (!(brmerge)) { r1081 = UINT64_C(2); r3 = it; r3_2 = UINT64_C(0); r3_3 = UINT64_C(0); r3_4 = UINT64_C(0); r1 = 0u; goto dcc_wire_seen_Seen_ones_left; }
-    r4 = dcc_load_64_aligned((a1 + 16));
-    if (r4 < UINT64_C(3)) { r1081 = UINT64_C(2); r3 = 2u; r3_2 = UINT64_C(0); r3_3 = UINT64_C(0); r3_4 = UINT64_C(0); r1 = 2u; goto dcc_wire_seen_Seen_ones_left; }
-    r68 = *(a1 + 4);
-    r9 = dcc_load_64((a1 + 8));
-    if (!(r68 == 0u)) { r1081 = UINT64_C(2); r3 = 4u; r3_2 = UINT64_C(0); r3_3 = r4; r3_4 = r9; r1 = 2u; goto dcc_wire_seen_Seen_ones_left; }
-    r0 = (uint8_t)(r9);
-    r0_2 = r9 >> UINT64_C(8);
-    r0_3 = r0_2;
-    r1081 = UINT64_C(1);
-    r3 = r0;
-    r3_2 = r0_3;
-    r3_3 = UINT64_C(0);
-    r3_4 = r4;
-    r1 = 2u;
-dcc_wire_seen_Seen_ones_left:;
-    *a1 = 0u;
-    *(a1 + 1) = r1;
-    dcc_store_64(a0, r1081);
-    *(a0 + 8) = r3;
-    dcc_store_56((a0 + 9), r3_2);
-    dcc_store_64((a0 + 16), r3_4);
-    dcc_store_64((a0 + 24), r3_3);
-    return;
-}
-
 /* dcc_timing::bits::Bits::add */
 static DCC_NOINLINE void dcc_timing_bits_Bits_add(unsigned char *a0, unsigned char *a1, uint64_t a2) {
     uint16_t r28, r37, v0, v1, a0_2, a1_2, r28_2, v2, v3, narrow;
@@ -1427,7 +1389,7 @@ arm:;
     r9_2 = 0u;
     goto after;
 arm_5:;
-    if (v3 == 0u) { r5_2 = 0u; r5_3 = UINT64_C(0); r5_4 = UINT64_C(1); goto dcc_lost_bodies_outcome_of; }
+    if (!(v3 == 1u)) { r5_2 = 0u; r5_3 = UINT64_C(0); r5_4 = UINT64_C(1); goto dcc_lost_bodies_outcome_of; }
     r4_2 = dcc_load_64_aligned((r3 + 16));
     if (r4_2 < UINT64_C(3)) { r5_2 = 0u; r5_3 = UINT64_C(0); r5_4 = UINT64_C(2); goto dcc_lost_bodies_outcome_of; }
     r9_3 = dcc_load_64_aligned((r3 + 8));
@@ -13057,30 +13019,28 @@ uint8_t dcc_lost_push_many(dcc_lost *finder, const uint16_t *halves, uint64_t le
     uint64_t a2 = len;
     unsigned char *a3 = (unsigned char *)packet;
     unsigned char *a4 = (unsigned char *)taken;
-    uint16_t r2_2, r7, r7_6, r29, v0, r4_3, r7_2, r17, r19, v1, r4_5, r7_7, r17_2, r19_2, v7, r23_3, v8, r35, v9,
+    uint16_t r2_2, r7, r7_6, r29, v0, r4_2, r7_2, r17, r19, v1, r4_6, r7_7, r17_2, r19_2, v7, r23_3, v8, r35, v9,
         r47_3, v10;
-    uint64_t r3_2, r3_6, storemerge, r3, r24, r1_2, r11_2, r5, r11_3, r13, r3_4, r5_2, r11_4, r13_2, r1_5, r11_6,
-        r1_6, r2_6, r16, r22_3, r33397, r33;
-    uint8_t r30_3, r9_2, r1_3, v3, r14_3, r1_4, spec, r2_3, r2_4, v5, v6, common, r1, r2, r3_3, r8, r9, r9_3, r9_4,
-        r10, r7_3, v2, r7_4, r9_5, r10_2, r22, r23, r32, r28, r30, r34, r47, r54, r57, r10_3, r7_5, r9_6, r10_4,
-        r22_2, r23_2, r32_2, r28_2, r30_2, r28_3, r30_4, r47_2, r54_2, r57_2, r10_5, r14_2, r0_2, r18, r28_4, r29_2,
-        r4_4, it, r5_3, r6, r11_5, v4, or_2, or_3, r2_5, r3_5, r19_4;
-    unsigned char *r4, *r27, *r14, *r8_2, *r8_3, *r14_4, *r19_3;
+    uint64_t r3_2, r3_6, storemerge, r3, r24, r1_2, r11_2, r5, r11_3, r13, r3_4, r5_2, r11_4, r13_2, r4_3, r1_4,
+        r11_6, r1_5, r2_6, r16, r22_3, r331213, r33;
+    uint8_t r30_3, r9_2, r4_4, v3, r1_3, spec, r2_3, r2_4, v5, v6, common, r1, r2, r3_3, r8, r9, r9_3, r9_4, r10,
+        r7_3, v2, r7_4, r9_5, r10_2, r22, r23, r32, r28, r30, r34, r47, r54, r57, r10_3, r7_5, r9_6, r10_4, r22_2,
+        r23_2, r32_2, r28_2, r30_2, r28_3, r30_4, r47_2, r54_2, r57_2, r10_5, r68, r18, r28_4, r29_2, r4_5, it,
+        r5_3, r6, r11_5, v4, or_2, or_3, r2_5, r3_5, r19_4;
+    unsigned char *r4, *r27, *r14, *r8_2, *r8_3, *r14_2, *r19_3;
     uint64_t place_0[7];
     unsigned char *const r0 = (unsigned char *)place_0;
     uint64_t place_1[6];
-    unsigned char *const r4_6 = (unsigned char *)place_1;
-    uint64_t place_2[4];
-    unsigned char *const r4_2 = (unsigned char *)place_2;
-    uint32_t place_3[7];
-    unsigned char *const r11 = (unsigned char *)place_3;
+    unsigned char *const r4_7 = (unsigned char *)place_1;
+    uint32_t place_2[7];
+    unsigned char *const r11 = (unsigned char *)place_2;
     r1 = a1 == (unsigned char *)0;
     r3 = r1 ? UINT64_C(4096) : UINT64_C(0);
     r4 = a1 + (ptrdiff_t)r3;
     memset(DCC_ALIGNED(r11), 0u, 28);
     if (a2 == UINT64_C(0)) { storemerge = UINT64_C(0); common = 0u; goto dcc_c_lost_dcc_lost_push_many; }
     r3_2 = UINT64_C(0);
-join_4:;
+join_5:;
     r24 = (uint64_t)((1u * r3_2) << UINT64_C(1));
     r27 = r4 + (ptrdiff_t)r24;
     r29 = dcc_load_16_aligned(r27);
@@ -13092,8 +13052,8 @@ join_4:;
     v0 = r8;
     r2_2 = v0;
 dcc_lost_heard_Heard_unused:;
-    r4_3 = dcc_load_16_aligned((a0 + 802));
-    if (!(r4_3 == 192u)) { r7 = r4_3; goto dcc_timing_recent_LastNumbers_make_room; }
+    r4_2 = dcc_load_16_aligned((a0 + 802));
+    if (!(r4_2 == 192u)) { r7 = r4_2; goto dcc_timing_recent_LastNumbers_make_room; }
     dcc_timing_recent_LastNumbers_move_to_front((a0 + 418));
     r7_2 = dcc_load_16_aligned((a0 + 802));
     r7 = r7_2;
@@ -13124,22 +13084,22 @@ arm_2:;
     v2 = dcc_umin_8(r7_3, 19u);
     r7_4 = (uint8_t)(v2 + 1u);
     *(a0 + 1) = r7_4;
-    goto dcc_lost_heard_Heard_push;
+    goto then;
 arm_4:;
     r9_5 = *(a0 + 2);
     r10_2 = r9_5;
-    if (!(r10_2)) goto then;
+    if (!(r10_2)) goto then_2;
     r22 = *(a0 + 3);
     r23 = r22;
-    if (!(r23)) { r1_3 = 0u; goto dcc_lost_heard_Heard_push_2; }
+    if (!(r23)) goto arm_5;
     r32 = *(a0 + 6);
-    if (r32 == 0u) { r1_3 = 0u; goto dcc_lost_heard_Heard_push_2; }
-    goto join_2;
-then:;
+    if (r32 == 0u) goto join_2;
+    goto join_3;
+then_2:;
     *(a0 + 2) = 1u;
     *(a0 + 3) = 1u;
-    goto dcc_lost_heard_Heard_push;
-join_2:;
+    goto then;
+join_3:;
     *(a0 + 2) = 0u;
     r28 = *(a0 + 5);
     r30 = (uint8_t)((1u * r28) << 1u);
@@ -13148,7 +13108,7 @@ join_2:;
     *(a0 + 5) = r34;
     r47 = (uint8_t)(r32 + 1u);
     *(a0 + 6) = r47;
-    goto dcc_lost_heard_Heard_push;
+    goto then;
 else_2:;
     r5 = dcc_load_64_aligned((a0 + 16));
     r8_2 = (a0 + 8) + (ptrdiff_t)r5;
@@ -13161,51 +13121,51 @@ else_2:;
     *(a0 + 4) = r57;
     *(a0 + 5) = 0u;
     *(a0 + 6) = 0u;
-    goto dcc_lost_heard_Heard_push;
+    goto then;
 arm_3:;
     r10_3 = r9_3;
-    if (r10_3) goto arm_5;
+    if (r10_3) goto arm_6;
     r7_5 = *(a0 + 1);
     if (!(r7_5 > 19u)) goto else_3;
     *a0 = 1u;
     *(a0 + 2) = 1u;
     dcc_store_32((a0 + 3), UINT32_C(0));
     memset((a0 + 8), 0u, 16);
-    goto dcc_lost_heard_Heard_push;
+    goto then;
 else_3:;
     *(a0 + 1) = 0u;
-    goto dcc_lost_heard_Heard_push;
-arm_5:;
+    goto then;
+arm_6:;
     r9_6 = *(a0 + 2);
     r10_4 = r9_6;
-    if (!(r10_4)) goto then_2;
+    if (!(r10_4)) goto then_3;
     r22_2 = *(a0 + 3);
     r23_2 = r22_2;
-    if (r23_2) { r1_3 = 1u; goto dcc_lost_heard_Heard_push_2; }
+    if (r23_2) goto arm_5;
     r32_2 = *(a0 + 6);
-    if (!(r32_2 == 0u)) goto join_3;
+    if (!(r32_2 == 0u)) goto join_4;
     r3_4 = dcc_load_64_aligned((a0 + 16));
-    if (!(r3_4 < UINT64_C(6))) { r1_3 = 1u; goto dcc_lost_heard_Heard_push_2; }
+    if (!(r3_4 < UINT64_C(6))) goto arm_5;
     *(a0 + 2) = 0u;
     r28_2 = *(a0 + 5);
     r30_2 = (uint8_t)((1u * r28_2) << 1u);
     r30_3 = r30_2;
-    goto then_3;
-then_2:;
+    goto then_4;
+then_3:;
     *(a0 + 2) = 1u;
     *(a0 + 3) = 0u;
-    goto dcc_lost_heard_Heard_push;
-join_3:;
+    goto then;
+join_4:;
     *(a0 + 2) = 0u;
     r28_3 = *(a0 + 5);
     r30_4 = (uint8_t)((1u * r28_3) << 1u);
     if (!(r32_2 < 8u)) goto else_4;
     r30_3 = r30_4;
-then_3:;
+then_4:;
     *(a0 + 5) = r30_3;
     r47_2 = (uint8_t)(r32_2 + 1u);
     *(a0 + 6) = r47_2;
-    goto dcc_lost_heard_Heard_push;
+    goto then;
 else_4:;
     r5_2 = dcc_load_64_aligned((a0 + 16));
     r8_3 = (a0 + 8) + (ptrdiff_t)r5_2;
@@ -13218,50 +13178,53 @@ else_4:;
     *(a0 + 4) = r57_2;
     *(a0 + 5) = 0u;
     *(a0 + 6) = 0u;
-    goto dcc_lost_heard_Heard_push;
+    goto then;
 arm:;
     r10_5 = r9_2;
-    if (r10_5) { r1_3 = 2u; goto dcc_lost_heard_Heard_push_2; }
+    if (r10_5) goto arm_5;
     *(a0 + 1) = 0u;
-dcc_lost_heard_Heard_push:;
-    goto then_4;
-dcc_lost_heard_Heard_push_2:;
-    dcc_wire_kept_KeptFramer_take_apart(r4_2, a0, r1_3);
-    r14_2 = *r4_2;
-    r0_2 = *(r4_2 + 8);
-    switch (r14_2) {
-    case 0u: goto then_4;
-    case 2u: goto arm_6;
-    default: goto after;
-    }
-then_4:;
+    goto then;
+join_2:;
+    r4_3 = dcc_load_64_aligned((a0 + 16));
+    if (r4_3 < UINT64_C(3)) goto arm_7;
+    r68 = *(a0 + 4);
+    if (!(r68 == 0u)) goto arm_7;
+    *a0 = 0u;
+    *(a0 + 1) = 2u;
+    r4_4 = 1u;
+    v3 = 0u;
+    r1_3 = 2u;
+    goto dcc_lost_heard_unused_next;
+default_2:;
+    DCC_UNREACHABLE();
+then:;
     r18 = *(a0 + 24);
-    if (!(r18 == 20u)) goto after_2;
+    if (!(r18 == 20u)) goto arm_8;
     r28_4 = *(a0 + 25);
     r29_2 = r28_4;
     if (!(r29_2)) { v6 = 1u; goto dcc_lost_heard_Heard_count; }
-after_2:;
-    r4_4 = (uint8_t)(r18 + 1u);
-    it = dcc_umin_8(r4_4, 20u);
+arm_8:;
+    r4_5 = (uint8_t)(r18 + 1u);
+    it = dcc_umin_8(r4_5, 20u);
+    r4_4 = 0u;
     v3 = 1u;
-    r14_3 = 0u;
-    r1_4 = it;
+    r1_3 = it;
     goto dcc_lost_heard_unused_next;
-arm_6:;
-    switch (r0_2) {
-    case 2u: case 4u: goto after;
-    case 0u: case 1u: case 3u: v3 = 0u; r14_3 = 2u; r1_4 = 0u; goto dcc_lost_heard_unused_next;
-    default: goto noarm;
-    }
-after:;
+arm_5:;
+    *a0 = 0u;
+    *(a0 + 1) = 0u;
+    r4_4 = 2u;
     v3 = 0u;
-    r14_3 = r14_2;
-    r1_4 = 2u;
+    r1_3 = 0u;
     goto dcc_lost_heard_unused_next;
-noarm:;
-    DCC_UNREACHABLE();
+arm_7:;
+    *a0 = 0u;
+    *(a0 + 1) = 2u;
+    r4_4 = 2u;
+    v3 = 0u;
+    r1_3 = 2u;
 dcc_lost_heard_unused_next:;
-    *(a0 + 24) = r1_4;
+    *(a0 + 24) = r1_3;
     r5_3 = *(a0 + 25);
     r6 = r5_3;
     if (!(r6)) { spec = 0u; r2_3 = 0u; goto dcc_lost_heard_Heard_since_refusal; }
@@ -13270,18 +13233,16 @@ dcc_lost_heard_unused_next:;
     spec = v4;
     r2_3 = 1u;
 dcc_lost_heard_Heard_since_refusal:;
-    switch (r14_3) {
+    switch (r4_4) {
     case 0u: goto dcc_lost_heard_since_next;
     case 1u: r2_4 = 0u; v5 = 0u; goto dcc_lost_heard_since_next_2;
     case 2u: goto dcc_lost_heard_since_next_3;
-    default: goto noarm_2;
+    default: goto default_2;
     }
 dcc_lost_heard_since_next_3:;
     r2_4 = 1u;
     v5 = 0u;
     goto dcc_lost_heard_since_next_2;
-noarm_2:;
-    DCC_UNREACHABLE();
 dcc_lost_heard_since_next:;
     r2_4 = r2_3;
     v5 = spec;
@@ -13290,16 +13251,16 @@ dcc_lost_heard_since_next_2:;
     *(a0 + 26) = v5;
     v6 = v3;
 dcc_lost_heard_Heard_count:;
-    r4_5 = dcc_load_16_aligned((a0 + 416));
-    if (!(r4_5 == 192u)) { r7_6 = r4_5; goto dcc_lost_finder_LostFinder_hear; }
+    r4_6 = dcc_load_16_aligned((a0 + 416));
+    if (!(r4_6 == 192u)) { r7_6 = r4_6; goto dcc_lost_finder_LostFinder_hear; }
     dcc_timing_recent_LastNumbers_move_to_front((a0 + 32));
     r7_7 = dcc_load_16_aligned((a0 + 416));
     r7_6 = r7_7;
 dcc_lost_finder_LostFinder_hear:;
-    r1_5 = r7_6;
-    r11_6 = (uint64_t)((1u * r1_5) << UINT64_C(1));
-    r14_4 = (a0 + 32) + (ptrdiff_t)r11_6;
-    dcc_store_16_aligned(r14_4, r29);
+    r1_4 = r7_6;
+    r11_6 = (uint64_t)((1u * r1_4) << UINT64_C(1));
+    r14_2 = (a0 + 32) + (ptrdiff_t)r11_6;
+    dcc_store_16_aligned(r14_2, r29);
     r17_2 = dcc_load_16_aligned((a0 + 416));
     r19_2 = (uint16_t)(r17_2 + 1u);
     dcc_store_16_aligned((a0 + 416), r19_2);
@@ -13310,11 +13271,11 @@ dcc_lost_finder_LostFinder_hear:;
     r2_5 = *a0;
     r3_5 = r2_5;
     if (r3_5) goto dcc_lost_finder_LostFinder_push;
-    r1_6 = r19_2;
-    r2_6 = dcc_usub_sat_64(r1_6, UINT64_C(56));
+    r1_5 = r19_2;
+    r2_6 = dcc_usub_sat_64(r1_5, UINT64_C(56));
     r16 = (uint64_t)((1u * r2_6) << UINT64_C(1));
     r19_3 = (a0 + 32) + (ptrdiff_t)r16;
-    r22_3 = (uint64_t)(r1_6 - r2_6);
+    r22_3 = (uint64_t)(r1_5 - r2_6);
     if (!(r22_3 == UINT64_C(56))) goto dcc_lost_finder_LostFinder_push;
     r23_3 = dcc_load_16_aligned(r19_3);
     v8 = (uint16_t)(r23_3 + 65459u);
@@ -13327,23 +13288,23 @@ dcc_lost_finder_LostFinder_hear:;
     if (!(v10 < 19924u)) goto dcc_lost_finder_LostFinder_push;
     dcc_lost_finder_LostFinder_packet_at_end(r0, a0);
     r19_4 = *r0;
-    memcpy(DCC_ALIGNED(r4_6), DCC_ALIGNED((r0 + 8)), 48);
-    r33397 = (uint64_t)(r3_2 + UINT64_C(1));
-    if (r19_4 == 1u) goto arm_7;
-    r3_6 = r33397;
+    memcpy(DCC_ALIGNED(r4_7), DCC_ALIGNED((r0 + 8)), 48);
+    r331213 = (uint64_t)(r3_2 + UINT64_C(1));
+    if (r19_4 == 1u) goto arm_9;
+    r3_6 = r331213;
 loop:;
     if (r3_6 == a2) { storemerge = a2; common = 0u; goto dcc_c_lost_dcc_lost_push_many; }
     r3_2 = r3_6;
-    goto join_4;
+    goto join_5;
 dcc_lost_finder_LostFinder_push:;
-    memset(DCC_ALIGNED(r4_6), 0u, 48);
+    memset(DCC_ALIGNED(r4_7), 0u, 48);
     r33 = (uint64_t)(r3_2 + UINT64_C(1));
     r3_6 = r33;
     goto loop;
-arm_7:;
-    dcc_c_lost_packet_lost_numbers(r11, r4_6);
+arm_9:;
+    dcc_c_lost_packet_lost_numbers(r11, r4_7);
     memcpy(a3, DCC_ALIGNED(r11), 28);
-    storemerge = r33397;
+    storemerge = r331213;
     common = 1u;
 dcc_c_lost_dcc_lost_push_many:;
     dcc_store_64_aligned(a4, storemerge);
@@ -13356,34 +13317,32 @@ uint32_t dcc_lost_push_run(dcc_lost *finder, uint16_t us, uint32_t n, dcc_lost_p
     uint16_t a1 = us;
     uint32_t a2 = n;
     unsigned char *a3 = (unsigned char *)packet;
-    uint16_t r2_2, r7_2, r7_7, v0, v1, v2, r4_2, r7_3, r17, r19, r4_4, r7_8, r17_2, r19_2, r23_3, v8, r35, v9,
+    uint16_t r2_2, r7_3, r7_8, v0, v1, v2, r4, r7_4, r17, r19_2, r4_5, r7_9, r17_2, r19_3, r23_3, v8, r35, v9,
         r47_3, v10;
-    uint32_t r1, r1_7, r6, r21403, r21;
-    uint64_t r1_2, r11, r5, r11_2, r13, r3_2, r5_2, r11_3, r13_2, r1_5, r11_5, r1_6, r2_6, r16, r22_3;
-    uint8_t r30_3, r9_2, r1_3, v4, r14_3, r1_4, spec, r2_3, r2_4, v6, v7, or_2, r2, r3, r8, r9, r9_3, r9_4, r10,
-        r7_4, v3, r7_5, r9_5, r10_2, r22, r23, r32, r28, r30, r34, r47, r54, r57, r10_3, r7_6, r9_6, r10_4, r22_2,
-        r23_2, r32_2, r28_2, r30_2, r28_3, r30_4, r47_2, r54_2, r57_2, r10_5, r14_2, r0_2, r18, r28_4, r29, r4_3,
-        it, r5_3, r6_2, r11_4, v5, or_3, r2_5, r3_3, r19_4, v11;
-    unsigned char *r14, *r8_2, *r8_3, *r14_4, *r19_3;
+    uint32_t r1, r1_6, r6_2, r211217, r21;
+    uint64_t r1_2, r11, r5, r11_2, r13, r3_2, r5_2, r11_3, r13_2, r4_2, r1_4, r11_5, r1_5, r2_6, r16, r22_3;
+    uint8_t r9, r30_3, r12, r4_3, v4, r1_3, spec, r2_3, r2_4, v6, v7, r7_2, r19, or_2, r2, r3, r8, r9_2, r10, r7_5,
+        v3, r7_6, r9_3, r10_2, r22, r23, r32, r28, r30, r34, r47, r54, r57, r10_3, r7_7, r9_4, r10_4, r22_2, r23_2,
+        r32_2, r28_2, r30_2, r28_3, r30_4, r47_2, r54_2, r57_2, r10_5, r68, r18, r28_4, r29, r4_4, it, r5_3, r6,
+        r11_4, v5, or_3, r2_5, r3_3, r19_5, v11;
+    unsigned char *r14, *r8_2, *r8_3, *r14_2, *r19_4;
     uint64_t place_0[7];
     unsigned char *const r0 = (unsigned char *)place_0;
     uint64_t place_1[6];
-    unsigned char *const r4_5 = (unsigned char *)place_1;
+    unsigned char *const r4_6 = (unsigned char *)place_1;
     uint64_t place_2[6];
-    unsigned char *const r4_6 = (unsigned char *)place_2;
-    uint64_t place_3[4];
-    unsigned char *const r4 = (unsigned char *)place_3;
-    uint32_t place_4[7];
-    unsigned char *const r7 = (unsigned char *)place_4;
+    unsigned char *const r4_7 = (unsigned char *)place_2;
+    uint32_t place_3[7];
+    unsigned char *const r7 = (unsigned char *)place_3;
     memset(DCC_ALIGNED(r7), 0u, 28);
+    r7_2 = a1 < 65u;
     v0 = (uint16_t)(a1 + 65446u);
+    r19 = r7_2;
     v1 = (uint16_t)(a1 + 65510u);
     or_2 = v1 < 51u;
-    if (!(a2 == UINT32_C(0))) { r1 = UINT32_C(0); goto join; }
-dcc_lost_finder_LostFinder_push_run:;
-    r6 = UINT32_C(0);
-    goto dcc_c_lost_dcc_lost_push_run;
-join:;
+    if (a2 == UINT32_C(0)) goto dcc_lost_finder_LostFinder_push_run;
+    r1 = UINT32_C(0);
+join_3:;
     memset(DCC_ALIGNED(r0), 0u, 56);
     r2 = *a0;
     r3 = r2;
@@ -13392,53 +13351,48 @@ join:;
     v2 = r8;
     r2_2 = v2;
 dcc_lost_heard_Heard_unused:;
-    r4_2 = dcc_load_16_aligned((a0 + 802));
-    if (!(r4_2 == 192u)) { r7_2 = r4_2; goto dcc_timing_recent_LastNumbers_make_room; }
+    r4 = dcc_load_16_aligned((a0 + 802));
+    if (!(r4 == 192u)) { r9 = r2; r7_3 = r4; goto dcc_timing_recent_LastNumbers_make_room; }
     dcc_timing_recent_LastNumbers_move_to_front((a0 + 418));
-    r7_3 = dcc_load_16_aligned((a0 + 802));
-    r7_2 = r7_3;
+    r7_4 = dcc_load_16_aligned((a0 + 802));
+    r9_2 = *a0;
+    r9 = r9_2;
+    r7_3 = r7_4;
 dcc_timing_recent_LastNumbers_make_room:;
-    r1_2 = r7_2;
+    r1_2 = r7_3;
     r11 = (uint64_t)((1u * r1_2) << UINT64_C(1));
     r14 = (a0 + 418) + (ptrdiff_t)r11;
     dcc_store_16_aligned(r14, r2_2);
     r17 = dcc_load_16_aligned((a0 + 802));
-    r19 = (uint16_t)(r17 + 1u);
-    dcc_store_16_aligned((a0 + 802), r19);
-    if (!(a1 < 52u)) goto join_2;
-    r9 = *a0;
-    r9_2 = r9;
-    goto arm;
-join_2:;
-    if (a1 < 65u) goto arm_2;
-    r9_3 = *a0;
+    r19_2 = (uint16_t)(r17 + 1u);
+    dcc_store_16_aligned((a0 + 802), r19_2);
+    if (a1 < 52u) goto arm;
+    if (r7_2) goto arm_2;
     if (v0 < 9911u) goto arm_3;
-    r9_2 = r9_3;
     goto arm;
 arm_2:;
-    r9_4 = *a0;
-    r10 = r9_4;
+    r10 = r9;
     if (r10) goto arm_4;
-    r7_4 = *(a0 + 1);
-    v3 = dcc_umin_8(r7_4, 19u);
-    r7_5 = (uint8_t)(v3 + 1u);
-    *(a0 + 1) = r7_5;
-    goto dcc_lost_heard_Heard_push;
+    r7_5 = *(a0 + 1);
+    v3 = dcc_umin_8(r7_5, 19u);
+    r7_6 = (uint8_t)(v3 + 1u);
+    *(a0 + 1) = r7_6;
+    goto then;
 arm_4:;
-    r9_5 = *(a0 + 2);
-    r10_2 = r9_5;
-    if (!(r10_2)) goto then;
+    r9_3 = *(a0 + 2);
+    r10_2 = r9_3;
+    if (!(r10_2)) goto then_2;
     r22 = *(a0 + 3);
     r23 = r22;
-    if (!(r23)) { r1_3 = 0u; goto dcc_lost_heard_Heard_push_2; }
+    if (!(r23)) { r12 = 0u; goto arm_5; }
     r32 = *(a0 + 6);
-    if (r32 == 0u) { r1_3 = 0u; goto dcc_lost_heard_Heard_push_2; }
-    goto join_3;
-then:;
+    if (r32 == 0u) { r12 = 1u; goto arm_5; }
+    goto join;
+then_2:;
     *(a0 + 2) = 1u;
     *(a0 + 3) = 1u;
-    goto dcc_lost_heard_Heard_push;
-join_3:;
+    goto then;
+join:;
     *(a0 + 2) = 0u;
     r28 = *(a0 + 5);
     r30 = (uint8_t)((1u * r28) << 1u);
@@ -13447,7 +13401,7 @@ join_3:;
     *(a0 + 5) = r34;
     r47 = (uint8_t)(r32 + 1u);
     *(a0 + 6) = r47;
-    goto dcc_lost_heard_Heard_push;
+    goto then;
 else_2:;
     r5 = dcc_load_64_aligned((a0 + 16));
     r8_2 = (a0 + 8) + (ptrdiff_t)r5;
@@ -13460,51 +13414,51 @@ else_2:;
     *(a0 + 4) = r57;
     *(a0 + 5) = 0u;
     *(a0 + 6) = 0u;
-    goto dcc_lost_heard_Heard_push;
+    goto then;
 arm_3:;
-    r10_3 = r9_3;
-    if (r10_3) goto arm_5;
-    r7_6 = *(a0 + 1);
-    if (!(r7_6 > 19u)) goto else_3;
+    r10_3 = r9;
+    if (r10_3) goto arm_6;
+    r7_7 = *(a0 + 1);
+    if (!(r7_7 > 19u)) goto else_3;
     *a0 = 1u;
     *(a0 + 2) = 1u;
     dcc_store_32((a0 + 3), UINT32_C(0));
     memset((a0 + 8), 0u, 16);
-    goto dcc_lost_heard_Heard_push;
+    goto then;
 else_3:;
     *(a0 + 1) = 0u;
-    goto dcc_lost_heard_Heard_push;
-arm_5:;
-    r9_6 = *(a0 + 2);
-    r10_4 = r9_6;
-    if (!(r10_4)) goto then_2;
+    goto then;
+arm_6:;
+    r9_4 = *(a0 + 2);
+    r10_4 = r9_4;
+    if (!(r10_4)) goto then_3;
     r22_2 = *(a0 + 3);
     r23_2 = r22_2;
-    if (r23_2) { r1_3 = 1u; goto dcc_lost_heard_Heard_push_2; }
+    if (r23_2) goto arm_7;
     r32_2 = *(a0 + 6);
-    if (!(r32_2 == 0u)) goto join_4;
+    if (!(r32_2 == 0u)) goto join_2;
     r3_2 = dcc_load_64_aligned((a0 + 16));
-    if (!(r3_2 < UINT64_C(6))) { r1_3 = 1u; goto dcc_lost_heard_Heard_push_2; }
+    if (!(r3_2 < UINT64_C(6))) goto arm_7;
     *(a0 + 2) = 0u;
     r28_2 = *(a0 + 5);
     r30_2 = (uint8_t)((1u * r28_2) << 1u);
     r30_3 = r30_2;
-    goto then_3;
-then_2:;
+    goto then_4;
+then_3:;
     *(a0 + 2) = 1u;
     *(a0 + 3) = 0u;
-    goto dcc_lost_heard_Heard_push;
-join_4:;
+    goto then;
+join_2:;
     *(a0 + 2) = 0u;
     r28_3 = *(a0 + 5);
     r30_4 = (uint8_t)((1u * r28_3) << 1u);
     if (!(r32_2 < 8u)) goto else_4;
     r30_3 = r30_4;
-then_3:;
+then_4:;
     *(a0 + 5) = r30_3;
     r47_2 = (uint8_t)(r32_2 + 1u);
     *(a0 + 6) = r47_2;
-    goto dcc_lost_heard_Heard_push;
+    goto then;
 else_4:;
     r5_2 = dcc_load_64_aligned((a0 + 16));
     r8_3 = (a0 + 8) + (ptrdiff_t)r5_2;
@@ -13517,70 +13471,79 @@ else_4:;
     *(a0 + 4) = r57_2;
     *(a0 + 5) = 0u;
     *(a0 + 6) = 0u;
-    goto dcc_lost_heard_Heard_push;
+    goto then;
 arm:;
-    r10_5 = r9_2;
-    if (r10_5) { r1_3 = 2u; goto dcc_lost_heard_Heard_push_2; }
+    r10_5 = r9;
+    if (r10_5) goto arm_7;
     *(a0 + 1) = 0u;
-dcc_lost_heard_Heard_push:;
-    goto then_4;
-dcc_lost_heard_Heard_push_2:;
-    dcc_wire_kept_KeptFramer_take_apart(r4, a0, r1_3);
-    r14_2 = *r4;
-    r0_2 = *(r4 + 8);
-    switch (r14_2) {
-    case 0u: goto then_4;
-    case 2u: goto arm_6;
-    default: goto after;
-    }
-then_4:;
+    goto then;
+arm_5:;
+    if (!(r12 == r19)) goto arm_8;
+    r4_2 = dcc_load_64_aligned((a0 + 16));
+    if (r4_2 < UINT64_C(3)) goto arm_9;
+    r68 = *(a0 + 4);
+    if (!(r68 == 0u)) goto arm_9;
+    *a0 = 0u;
+    *(a0 + 1) = 2u;
+    r4_3 = 1u;
+    v4 = 0u;
+    r1_3 = 2u;
+    goto dcc_lost_heard_unused_next;
+default_2:;
+    DCC_UNREACHABLE();
+then:;
     r18 = *(a0 + 24);
-    if (!(r18 == 20u)) goto after_2;
+    if (!(r18 == 20u)) goto arm_10;
     r28_4 = *(a0 + 25);
     r29 = r28_4;
     if (!(r29)) { v7 = 1u; goto dcc_lost_heard_Heard_count; }
-after_2:;
-    r4_3 = (uint8_t)(r18 + 1u);
-    it = dcc_umin_8(r4_3, 20u);
+arm_10:;
+    r4_4 = (uint8_t)(r18 + 1u);
+    it = dcc_umin_8(r4_4, 20u);
+    r4_3 = 0u;
     v4 = 1u;
-    r14_3 = 0u;
-    r1_4 = it;
+    r1_3 = it;
     goto dcc_lost_heard_unused_next;
-arm_6:;
-    switch (r0_2) {
-    case 2u: case 4u: goto after;
-    case 0u: case 1u: case 3u: v4 = 0u; r14_3 = 2u; r1_4 = 0u; goto dcc_lost_heard_unused_next;
-    default: goto noarm;
-    }
-after:;
+arm_7:;
+    *a0 = 0u;
+    *(a0 + 1) = 0u;
+    r4_3 = 2u;
     v4 = 0u;
-    r14_3 = r14_2;
-    r1_4 = 2u;
+    r1_3 = 0u;
     goto dcc_lost_heard_unused_next;
-noarm:;
-    DCC_UNREACHABLE();
+arm_9:;
+    *a0 = 0u;
+    *(a0 + 1) = 2u;
+    r4_3 = 2u;
+    v4 = 0u;
+    r1_3 = 2u;
+    goto dcc_lost_heard_unused_next;
+arm_8:;
+    *a0 = 0u;
+    *(a0 + 1) = 0u;
+    r4_3 = 2u;
+    v4 = 0u;
+    r1_3 = 0u;
 dcc_lost_heard_unused_next:;
-    *(a0 + 24) = r1_4;
+    *(a0 + 24) = r1_3;
     r5_3 = *(a0 + 25);
-    r6_2 = r5_3;
-    if (!(r6_2)) { spec = 0u; r2_3 = 0u; goto dcc_lost_heard_Heard_since_refusal; }
+    r6 = r5_3;
+    if (!(r6)) { spec = 0u; r2_3 = 0u; goto dcc_lost_heard_Heard_since_refusal; }
     r11_4 = *(a0 + 26);
     v5 = dcc_uadd_sat_8(r11_4, 1u);
     spec = v5;
     r2_3 = 1u;
 dcc_lost_heard_Heard_since_refusal:;
-    switch (r14_3) {
+    switch (r4_3) {
     case 0u: goto dcc_lost_heard_since_next;
     case 1u: r2_4 = 0u; v6 = 0u; goto dcc_lost_heard_since_next_2;
     case 2u: goto dcc_lost_heard_since_next_3;
-    default: goto noarm_2;
+    default: goto default_2;
     }
 dcc_lost_heard_since_next_3:;
     r2_4 = 1u;
     v6 = 0u;
     goto dcc_lost_heard_since_next_2;
-noarm_2:;
-    DCC_UNREACHABLE();
 dcc_lost_heard_since_next:;
     r2_4 = r2_3;
     v6 = spec;
@@ -13589,62 +13552,65 @@ dcc_lost_heard_since_next_2:;
     *(a0 + 26) = v6;
     v7 = v4;
 dcc_lost_heard_Heard_count:;
-    r4_4 = dcc_load_16_aligned((a0 + 416));
-    if (!(r4_4 == 192u)) { r7_7 = r4_4; goto dcc_lost_finder_LostFinder_hear; }
+    r4_5 = dcc_load_16_aligned((a0 + 416));
+    if (!(r4_5 == 192u)) { r7_8 = r4_5; goto dcc_lost_finder_LostFinder_hear; }
     dcc_timing_recent_LastNumbers_move_to_front((a0 + 32));
-    r7_8 = dcc_load_16_aligned((a0 + 416));
-    r7_7 = r7_8;
+    r7_9 = dcc_load_16_aligned((a0 + 416));
+    r7_8 = r7_9;
 dcc_lost_finder_LostFinder_hear:;
-    r1_5 = r7_7;
-    r11_5 = (uint64_t)((1u * r1_5) << UINT64_C(1));
-    r14_4 = (a0 + 32) + (ptrdiff_t)r11_5;
-    dcc_store_16_aligned(r14_4, a1);
+    r1_4 = r7_8;
+    r11_5 = (uint64_t)((1u * r1_4) << UINT64_C(1));
+    r14_2 = (a0 + 32) + (ptrdiff_t)r11_5;
+    dcc_store_16_aligned(r14_2, a1);
     r17_2 = dcc_load_16_aligned((a0 + 416));
-    r19_2 = (uint16_t)(r17_2 + 1u);
-    dcc_store_16_aligned((a0 + 416), r19_2);
+    r19_3 = (uint16_t)(r17_2 + 1u);
+    dcc_store_16_aligned((a0 + 416), r19_3);
     or_3 = or_2 & v7;
     if (!(or_3)) goto dcc_lost_finder_LostFinder_push;
     r2_5 = *a0;
     r3_3 = r2_5;
     if (r3_3) goto dcc_lost_finder_LostFinder_push;
-    r1_6 = r19_2;
-    r2_6 = dcc_usub_sat_64(r1_6, UINT64_C(56));
+    r1_5 = r19_3;
+    r2_6 = dcc_usub_sat_64(r1_5, UINT64_C(56));
     r16 = (uint64_t)((1u * r2_6) << UINT64_C(1));
-    r19_3 = (a0 + 32) + (ptrdiff_t)r16;
-    r22_3 = (uint64_t)(r1_6 - r2_6);
+    r19_4 = (a0 + 32) + (ptrdiff_t)r16;
+    r22_3 = (uint64_t)(r1_5 - r2_6);
     if (!(r22_3 == UINT64_C(56))) goto dcc_lost_finder_LostFinder_push;
-    r23_3 = dcc_load_16_aligned(r19_3);
+    r23_3 = dcc_load_16_aligned(r19_4);
     v8 = (uint16_t)(r23_3 + 65459u);
     if (!(v8 < 19924u)) goto dcc_lost_finder_LostFinder_push;
-    r35 = dcc_load_16_aligned((r19_3 + 36));
+    r35 = dcc_load_16_aligned((r19_4 + 36));
     v9 = (uint16_t)(r35 + 65459u);
     if (!(v9 < 19924u)) goto dcc_lost_finder_LostFinder_push;
-    r47_3 = dcc_load_16_aligned((r19_3 + 72));
+    r47_3 = dcc_load_16_aligned((r19_4 + 72));
     v10 = (uint16_t)(r47_3 + 65459u);
     if (!(v10 < 19924u)) goto dcc_lost_finder_LostFinder_push;
     dcc_lost_finder_LostFinder_packet_at_end(r0, a0);
-    r19_4 = *r0;
-    memcpy(DCC_ALIGNED(r4_5), DCC_ALIGNED((r0 + 8)), 48);
-    v11 = r19_4;
-    r21403 = (uint32_t)(r1 + UINT32_C(1));
-    if (v11) goto arm_7;
-    r1_7 = r21403;
+    r19_5 = *r0;
+    memcpy(DCC_ALIGNED(r4_6), DCC_ALIGNED((r0 + 8)), 48);
+    v11 = r19_5;
+    r211217 = (uint32_t)(r1 + UINT32_C(1));
+    if (v11) goto arm_11;
+    r1_6 = r211217;
 loop:;
-    if (r1_7 == a2) goto dcc_lost_finder_LostFinder_push_run;
-    r1 = r1_7;
-    goto join;
+    if (r1_6 == a2) goto dcc_lost_finder_LostFinder_push_run;
+    r1 = r1_6;
+    goto join_3;
 dcc_lost_finder_LostFinder_push:;
-    memset(DCC_ALIGNED(r4_5), 0u, 48);
+    memset(DCC_ALIGNED(r4_6), 0u, 48);
     r21 = (uint32_t)(r1 + UINT32_C(1));
-    r1_7 = r21;
+    r1_6 = r21;
     goto loop;
-arm_7:;
-    memcpy(DCC_ALIGNED(r4_6), DCC_ALIGNED(r4_5), 48);
-    dcc_c_lost_packet_lost_numbers(r7, r4_6);
+dcc_lost_finder_LostFinder_push_run:;
+    r6_2 = UINT32_C(0);
+    goto dcc_c_lost_dcc_lost_push_run;
+arm_11:;
+    memcpy(DCC_ALIGNED(r4_7), DCC_ALIGNED(r4_6), 48);
+    dcc_c_lost_packet_lost_numbers(r7, r4_7);
     memcpy(a3, DCC_ALIGNED(r7), 28);
-    r6 = r21403;
+    r6_2 = r211217;
 dcc_c_lost_dcc_lost_push_run:;
-    return r6;
+    return r6_2;
 }
 
 /* dcc_board_decoder_new */
@@ -15579,16 +15545,14 @@ uint8_t dcc_lost_push(dcc_lost *finder, uint16_t us, dcc_lost_packet *packet) {
     unsigned char *a0 = (unsigned char *)finder;
     uint16_t a1 = us;
     unsigned char *a2 = (unsigned char *)packet;
-    uint16_t r2_2, r7, r7_6, v0, r4, r7_2, r17, r19, v1, r4_4, r7_7, r17_2, r19_2, v9, r23_3, v11, r35, v12, r47_3,
-        v13;
-    uint64_t r1, r11, r5, r11_2, r13, r3_2, r5_2, r11_3, r13_2, r1_4, r11_5, r1_5, r2_6, r16, r22_3;
-    uint8_t r30_3, r9_2, r1_2, v5, r14_3, r1_3, spec, r2_3, r2_4, v7, v8, common, r2, r3, r8, r9, r9_3, r9_4, r10,
-        r7_3, v2, r7_4, r9_5, r10_2, r22, r23, r32, r28, r30, r34, r47, r54, r57, r10_3, r7_5, r9_6, r10_4, r22_2,
-        r23_2, r32_2, r28_2, r30_2, r28_3, r30_4, r47_2, r54_2, r57_2, r10_5, r14_2, r0, r18, r28_4, r29, r4_3, it,
-        r5_3, r6, r11_4, v6, v10, or_2, r2_5, r3_3, r18_2;
-    unsigned char *r27, *r40, *r14, *r8_2, *r8_3, *r14_4, *r19_3;
-    uint64_t place_0[4];
-    unsigned char *const r4_2 = (unsigned char *)place_0;
+    uint16_t r2_2, r7, r7_6, v0, r4, r7_2, r17, r19, v1, r4_5, r7_7, r17_2, r19_2, v6, r23_3, v8, r35, v9, r47_3,
+        v10;
+    uint64_t r1, r11, r5, r11_2, r13, r3_2, r5_2, r11_3, r13_2, r4_2, r1_3, r11_5, r1_4, r2_6, r16, r22_3;
+    uint8_t r30_3, r9_2, r4_3, v3, r1_2, spec, r2_3, r2_4, v5, it, common, r2, r3, r8, r9, r9_3, r9_4, r10, r7_3,
+        v2, r7_4, r9_5, r10_2, r22, r23, r32, r28, r30, r34, r47, r54, r57, r10_3, r7_5, r9_6, r10_4, r22_2, r23_2,
+        r32_2, r28_2, r30_2, r28_3, r30_4, r47_2, r54_2, r57_2, r10_5, r68, r18, r28_4, r29, r4_4, it_2, r5_3, r6,
+        r11_4, v4, v7, or_2, r2_5, r3_3, r18_2;
+    unsigned char *r27, *r40, *r14, *r8_2, *r8_3, *r14_2, *r19_3;
     r2 = *a0;
     r3 = r2;
     if (r3) { r2_2 = 0u; goto dcc_lost_heard_Heard_unused; }
@@ -15628,22 +15592,22 @@ arm_2:;
     v2 = dcc_umin_8(r7_3, 19u);
     r7_4 = (uint8_t)(v2 + 1u);
     *(a0 + 1) = r7_4;
-    goto dcc_lost_heard_Heard_push;
+    goto then;
 arm_4:;
     r9_5 = *(a0 + 2);
     r10_2 = r9_5;
-    if (!(r10_2)) goto then;
+    if (!(r10_2)) goto then_2;
     r22 = *(a0 + 3);
     r23 = r22;
-    if (!(r23)) { r1_2 = 0u; goto dcc_lost_heard_Heard_push_2; }
+    if (!(r23)) goto arm_5;
     r32 = *(a0 + 6);
-    if (r32 == 0u) { r1_2 = 0u; goto dcc_lost_heard_Heard_push_2; }
-    goto join_2;
-then:;
+    if (r32 == 0u) goto join_2;
+    goto join_3;
+then_2:;
     *(a0 + 2) = 1u;
     *(a0 + 3) = 1u;
-    goto dcc_lost_heard_Heard_push;
-join_2:;
+    goto then;
+join_3:;
     *(a0 + 2) = 0u;
     r28 = *(a0 + 5);
     r30 = (uint8_t)((1u * r28) << 1u);
@@ -15652,7 +15616,7 @@ join_2:;
     *(a0 + 5) = r34;
     r47 = (uint8_t)(r32 + 1u);
     *(a0 + 6) = r47;
-    goto dcc_lost_heard_Heard_push;
+    goto then;
 else_2:;
     r5 = dcc_load_64_aligned((a0 + 16));
     r8_2 = (a0 + 8) + (ptrdiff_t)r5;
@@ -15665,53 +15629,53 @@ else_2:;
     *(a0 + 4) = r57;
     *(a0 + 5) = 0u;
     *(a0 + 6) = 0u;
-    goto dcc_lost_heard_Heard_push;
+    goto then;
 arm_3:;
     r10_3 = r9_3;
-    if (r10_3) goto arm_5;
+    if (r10_3) goto arm_6;
     r7_5 = *(a0 + 1);
     if (!(r7_5 > 19u)) goto else_3;
     *a0 = 1u;
     *(a0 + 2) = 1u;
     dcc_store_32((a0 + 3), UINT32_C(0));
     memset((a0 + 8), 0u, 16);
-    goto dcc_lost_heard_Heard_push;
+    goto then;
 else_3:;
     *(a0 + 1) = 0u;
-    goto dcc_lost_heard_Heard_push;
-arm_5:;
+    goto then;
+arm_6:;
     r9_6 = *(a0 + 2);
     r10_4 = r9_6;
-    if (!(r10_4)) goto then_2;
+    if (!(r10_4)) goto then_3;
     r22_2 = *(a0 + 3);
     r23_2 = r22_2;
-    if (r23_2) { r1_2 = 1u; goto dcc_lost_heard_Heard_push_2; }
+    if (r23_2) goto arm_5;
     r32_2 = *(a0 + 6);
-    if (!(r32_2 == 0u)) goto join_3;
+    if (!(r32_2 == 0u)) goto join_4;
     r3_2 = dcc_load_64_aligned((a0 + 16));
-    if (!(r3_2 < UINT64_C(6))) { r1_2 = 1u; goto dcc_lost_heard_Heard_push_2; }
+    if (!(r3_2 < UINT64_C(6))) goto arm_5;
     *(a0 + 2) = 0u;
     r28_2 = *(a0 + 5);
     r30_2 = (uint8_t)((1u * r28_2) << 1u);
     r30_3 = r30_2;
     r27 = (a0 + 5);
-    goto then_3;
-then_2:;
+    goto then_4;
+then_3:;
     *(a0 + 2) = 1u;
     *(a0 + 3) = 0u;
-    goto dcc_lost_heard_Heard_push;
-join_3:;
+    goto then;
+join_4:;
     *(a0 + 2) = 0u;
     r28_3 = *(a0 + 5);
     r30_4 = (uint8_t)((1u * r28_3) << 1u);
     if (!(r32_2 < 8u)) goto else_4;
     r30_3 = r30_4;
     r27 = (a0 + 5);
-then_3:;
+then_4:;
     *r27 = r30_3;
     r47_2 = (uint8_t)(r32_2 + 1u);
     *(a0 + 6) = r47_2;
-    goto dcc_lost_heard_Heard_push;
+    goto then;
 else_4:;
     r5_2 = dcc_load_64_aligned((a0 + 16));
     r8_3 = (a0 + 8) + (ptrdiff_t)r5_2;
@@ -15724,112 +15688,118 @@ else_4:;
     *(a0 + 4) = r57_2;
     *(a0 + 5) = 0u;
     *(a0 + 6) = 0u;
-    goto dcc_lost_heard_Heard_push;
+    goto then;
 arm:;
     r10_5 = r9_2;
-    if (r10_5) { r1_2 = 2u; goto dcc_lost_heard_Heard_push_2; }
+    if (r10_5) goto arm_5;
     *(a0 + 1) = 0u;
-dcc_lost_heard_Heard_push:;
-    goto then_4;
-dcc_lost_heard_Heard_push_2:;
-    dcc_wire_kept_KeptFramer_take_apart(r4_2, a0, r1_2);
-    r14_2 = *r4_2;
-    r0 = *(r4_2 + 8);
-    if (!(r14_2 == 0u)) goto after;
-then_4:;
+    goto then;
+join_2:;
+    r4_2 = dcc_load_64_aligned((a0 + 16));
+    if (r4_2 < UINT64_C(3)) goto arm_7;
+    r68 = *(a0 + 4);
+    if (!(r68 == 0u)) goto arm_7;
+    *a0 = 0u;
+    *(a0 + 1) = 2u;
+    r40 = (a0 + 24);
+    r4_3 = 1u;
+    v3 = 1u;
+    r1_2 = 2u;
+    goto dcc_lost_heard_unused_next;
+default_2:;
+    DCC_UNREACHABLE();
+then:;
     r18 = *(a0 + 24);
-    if (!(r18 == 20u)) goto after_2;
+    if (!(r18 == 20u)) goto arm_8;
     r28_4 = *(a0 + 25);
     r29 = r28_4;
-    if (!(r29)) { v8 = 1u; goto dcc_lost_heard_Heard_count; }
-after_2:;
-    r4_3 = (uint8_t)(r18 + 1u);
-    it = dcc_umin_8(r4_3, 20u);
-    v5 = 1u;
-    r14_3 = 0u;
+    if (!(r29)) { it = 0u; goto dcc_lost_heard_Heard_count; }
+arm_8:;
+    r4_4 = (uint8_t)(r18 + 1u);
+    it_2 = dcc_umin_8(r4_4, 20u);
     r40 = (a0 + 24);
-    r1_3 = it;
+    r4_3 = 0u;
+    v3 = 0u;
+    r1_2 = it_2;
     goto dcc_lost_heard_unused_next;
-after:;
-    if (!(r14_2 == 2u)) goto after_3;
-    switch (r0) {
-    case 2u: case 4u: goto after_3;
-    case 0u: case 1u: case 3u: v5 = 0u; r14_3 = 2u; r40 = (a0 + 24); r1_3 = 0u; goto dcc_lost_heard_unused_next;
-    default: goto noarm;
-    }
-after_3:;
-    v5 = 0u;
-    r14_3 = r14_2;
+arm_5:;
+    *a0 = 0u;
+    *(a0 + 1) = 0u;
     r40 = (a0 + 24);
-    r1_3 = 2u;
+    r4_3 = 2u;
+    v3 = 1u;
+    r1_2 = 0u;
     goto dcc_lost_heard_unused_next;
-noarm:;
-    DCC_UNREACHABLE();
+arm_7:;
+    *a0 = 0u;
+    *(a0 + 1) = 2u;
+    r40 = (a0 + 24);
+    r4_3 = 2u;
+    v3 = 1u;
+    r1_2 = 2u;
 dcc_lost_heard_unused_next:;
-    *r40 = r1_3;
+    *r40 = r1_2;
     r5_3 = *(a0 + 25);
     r6 = r5_3;
     if (!(r6)) { spec = 0u; r2_3 = 0u; goto dcc_lost_heard_Heard_since_refusal; }
     r11_4 = *(a0 + 26);
-    v6 = dcc_uadd_sat_8(r11_4, 1u);
-    spec = v6;
+    v4 = dcc_uadd_sat_8(r11_4, 1u);
+    spec = v4;
     r2_3 = 1u;
 dcc_lost_heard_Heard_since_refusal:;
-    switch (r14_3) {
+    switch (r4_3) {
     case 0u: goto dcc_lost_heard_since_next;
-    case 1u: r2_4 = 0u; v7 = 0u; goto dcc_lost_heard_since_next_2;
+    case 1u: r2_4 = 0u; v5 = 0u; goto dcc_lost_heard_since_next_2;
     case 2u: goto dcc_lost_heard_since_next_3;
-    default: goto noarm_2;
+    default: goto default_2;
     }
 dcc_lost_heard_since_next_3:;
     r2_4 = 1u;
-    v7 = 0u;
+    v5 = 0u;
     goto dcc_lost_heard_since_next_2;
-noarm_2:;
-    DCC_UNREACHABLE();
 dcc_lost_heard_since_next:;
     r2_4 = r2_3;
-    v7 = spec;
+    v5 = spec;
 dcc_lost_heard_since_next_2:;
     *(a0 + 25) = r2_4;
-    *(a0 + 26) = v7;
-    v8 = v5;
+    *(a0 + 26) = v5;
+    it = v3;
 dcc_lost_heard_Heard_count:;
-    r4_4 = dcc_load_16_aligned((a0 + 416));
-    if (!(r4_4 == 192u)) { r7_6 = r4_4; goto dcc_lost_finder_LostFinder_hear; }
+    r4_5 = dcc_load_16_aligned((a0 + 416));
+    if (!(r4_5 == 192u)) { r7_6 = r4_5; goto dcc_lost_finder_LostFinder_hear; }
     dcc_timing_recent_LastNumbers_move_to_front((a0 + 32));
     r7_7 = dcc_load_16_aligned((a0 + 416));
     r7_6 = r7_7;
 dcc_lost_finder_LostFinder_hear:;
-    r1_4 = r7_6;
-    r11_5 = (uint64_t)((1u * r1_4) << UINT64_C(1));
-    r14_4 = (a0 + 32) + (ptrdiff_t)r11_5;
-    dcc_store_16_aligned(r14_4, a1);
+    r1_3 = r7_6;
+    r11_5 = (uint64_t)((1u * r1_3) << UINT64_C(1));
+    r14_2 = (a0 + 32) + (ptrdiff_t)r11_5;
+    dcc_store_16_aligned(r14_2, a1);
     r17_2 = dcc_load_16_aligned((a0 + 416));
     r19_2 = (uint16_t)(r17_2 + 1u);
     dcc_store_16_aligned((a0 + 416), r19_2);
-    v9 = (uint16_t)(a1 + 65510u);
-    v10 = v9 < 51u;
-    or_2 = v10 & v8;
-    if (!(or_2)) { common = 0u; goto dcc_c_lost_dcc_lost_push; }
+    v6 = (uint16_t)(a1 + 65459u);
+    v7 = v6 < 65485u;
+    or_2 = v7 | it;
+    if (or_2) { common = 0u; goto dcc_c_lost_dcc_lost_push; }
     r2_5 = *a0;
     r3_3 = r2_5;
     if (r3_3) { common = 0u; goto dcc_c_lost_dcc_lost_push; }
-    r1_5 = r19_2;
-    r2_6 = dcc_usub_sat_64(r1_5, UINT64_C(56));
+    r1_4 = r19_2;
+    r2_6 = dcc_usub_sat_64(r1_4, UINT64_C(56));
     r16 = (uint64_t)((1u * r2_6) << UINT64_C(1));
     r19_3 = (a0 + 32) + (ptrdiff_t)r16;
-    r22_3 = (uint64_t)(r1_5 - r2_6);
+    r22_3 = (uint64_t)(r1_4 - r2_6);
     if (!(r22_3 == UINT64_C(56))) { common = 0u; goto dcc_c_lost_dcc_lost_push; }
     r23_3 = dcc_load_16_aligned(r19_3);
-    v11 = (uint16_t)(r23_3 + 65459u);
-    if (!(v11 < 19924u)) { common = 0u; goto dcc_c_lost_dcc_lost_push; }
+    v8 = (uint16_t)(r23_3 + 65459u);
+    if (!(v8 < 19924u)) { common = 0u; goto dcc_c_lost_dcc_lost_push; }
     r35 = dcc_load_16_aligned((r19_3 + 36));
-    v12 = (uint16_t)(r35 + 65459u);
-    if (!(v12 < 19924u)) { common = 0u; goto dcc_c_lost_dcc_lost_push; }
+    v9 = (uint16_t)(r35 + 65459u);
+    if (!(v9 < 19924u)) { common = 0u; goto dcc_c_lost_dcc_lost_push; }
     r47_3 = dcc_load_16_aligned((r19_3 + 72));
-    v13 = (uint16_t)(r47_3 + 65459u);
-    if (!(v13 < 19924u)) { common = 0u; goto dcc_c_lost_dcc_lost_push; }
+    v10 = (uint16_t)(r47_3 + 65459u);
+    if (!(v10 < 19924u)) { common = 0u; goto dcc_c_lost_dcc_lost_push; }
     r18_2 = dcc_c_lost_write_packet_at_end(a0, a2);
     common = r18_2;
 dcc_c_lost_dcc_lost_push:;
