@@ -28,7 +28,7 @@ AreWords (Err refused) = (refused ≡ told.Usage usages.Words) ⊎ (refused ≡ 
 
 -- `result` is the result of the program after clap returned an error of the kind `kind`. If clap
 -- failed to allocate, `result` is the error U6. If the arguments request the help or the version,
--- `result` is Ok, or U5 after a failed write. For all other errors of clap, `result` is the error U1.
+-- `result` is Ok, or U5 after a failed write. For every other kind, `result` is the error U1.
 pub record EndsFor (kind : ErrorKind) (result : Result Ending ToolFault) : Type 0 where
   pub no_memory : kind ≡ kinds.OutOfMemory → result ≡ Err told.NoMemory
   pub asked_for : (kind ≡ kinds.DisplayHelp) ⊎ (kind ≡ kinds.DisplayVersion)
@@ -36,21 +36,21 @@ pub record EndsFor (kind : ErrorKind) (result : Result Ending ToolFault) : Type 
   pub wrong : kind ≢ kinds.OutOfMemory → kind ≢ kinds.DisplayHelp → kind ≢ kinds.DisplayVersion
       → result ≡ Err (told.Usage usages.Words)
 
--- clap rejected `words` with an error of the kind `kind`: an error that these words have, or a failed
--- allocation. Nothing was read from the input or written to the writer.
+-- clap rejected `words` with an error of the kind `kind`, which these words have, or because an
+-- allocation failed. Nothing was read from the input or written to the writer.
 abbrev pub Rejects : List Text → Streams → Result Ending ToolFault → Streams → Type 0
 Rejects words old result new =
     (kind : ErrorKind) × ((kind ≡ kinds.OutOfMemory) ⊎ IsAmong kind (fault_of dcc_app words)) × EndsFor kind result
     × (new ≡ old)
 
--- the operation of `request` was executed. If accepted arguments have the error `refused`, `result` is
--- this error, and nothing was read from the input or written to the writer.
+-- the operation of `request` was executed. If accepted arguments have the error `refused`, `result`
+-- is this error, and nothing was read from the input or written to the writer.
 abbrev pub PerformsAsked : Result Request ToolFault → Streams → Result Ending ToolFault → Streams → Type 0
 PerformsAsked (Ok request) old result new = Performs request old result new
 PerformsAsked (Err refused) old result new = (result ≡ Err refused) × (new ≡ old)
 
--- clap accepted `words`, since they have no error. These words express `asked`, which is a request or
--- an error. The operation of the request was executed, or `result` is this error.
+-- clap accepted `words`, since they have no error for clap. The words express `asked`, which is a
+-- request or an error. The operation of the request was executed, or `result` is the error.
 abbrev pub Accepts : List Text → Streams → Result Ending ToolFault → Streams → Type 0
 Accepts words old result new =
     (fault_of dcc_app words ≡ []) × (asked : Result Request ToolFault) × IsRequestOf (subcommand_of dcc_app words) asked

@@ -101,11 +101,9 @@ fn report_clap_error<T: Print + Eprint>(rt: &T, error: &Error) -> Result<Ending,
 /// definition that the proof of clap uses has no such options, so clap accepts both.
 fn print_conflict<T: Eprint>(rt: &T) {
     let _ = eprintln!(rt;
-        "error: the argument '--plain' cannot be used with '--words'
-
-Usage: dcc show --plain
-
-For more information, try '--help'."
+        "error: the argument '--plain' cannot be used with '--words'\n\n\
+         Usage: dcc show --plain\n\n\
+         For more information, try '--help'."
     );
 }
 
