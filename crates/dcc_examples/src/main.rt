@@ -3,6 +3,9 @@
 //! and one receiver loses contact with the rails. Each module contains code that you can copy.
 #![tactic(auto)]
 
+mod after_a_stop;
+mod all_stopped;
+mod both_tracks;
 mod cab;
 mod chained_reader;
 mod copied_cv;
@@ -24,6 +27,7 @@ mod sent_and_heard;
 mod sent_in_turn;
 mod station_sends;
 mod two_boosters;
+mod written_cv;
 
 use dcc_order::NoMemory;
 use dcc_packet::{Address, CvNumber, Packet, PacketFault};
