@@ -17,6 +17,7 @@ limit that uses vectors (bench/show_limit.c), if the processor has AVX2 and BMI2
 digits, so the table has the captures of such words. All three programs must write the same bytes. After the table the
 script prints the ratio of `timing` to `show`, and the ratio of CR LF to LF at one half-bit a line.
 """
+import itertools
 import os
 import re
 import resource
@@ -67,9 +68,16 @@ def write(path, line_of, head="", halves=HALVES):
 def seconds(words, path):
     before = resource.getrusage(resource.RUSAGE_CHILDREN)
     with open(path, "rb") as file, open(os.devnull, "wb") as out:
-        subprocess.run(words, stdin=file, stdout=out, check=False, preexec_fn=lambda: os.sched_setaffinity(0, {0}))
+        pinned = lambda: os.sched_setaffinity(0, {0})
+        ran = subprocess.run(words, stdin=file, stdout=out, stderr=out, check=False, preexec_fn=pinned)
     after = resource.getrusage(resource.RUSAGE_CHILDREN)
-    return after.ru_utime + after.ru_stime - before.ru_utime - before.ru_stime
+    took = after.ru_utime + after.ru_stime - before.ru_utime - before.ru_stime
+    return None if is_refused(ran) else took
+
+
+def is_refused(ran):
+    """Returns true if a program does not have its command, or cannot read its input."""
+    return ran.returncode not in (0, 1)
 
 
 def instructions(words, path):
@@ -78,7 +86,7 @@ def instructions(words, path):
         ran = subprocess.run(
             counted, stdin=file, stdout=subprocess.DEVNULL, stderr=subprocess.PIPE, text=True, check=False
         )
-    return int(re.search(r"Collected *: *(\d+)", ran.stderr)[1]) / 1e6
+    return None if is_refused(ran) else int(re.search(r"Collected *: *(\d+)", ran.stderr)[1]) / 1e6
 
 
 def built_in_c(room):
@@ -161,6 +169,9 @@ def main():
         # (as many as fit the limit of bytes)
         write(at("one_crlf"), lambda halves: "".join(f"{us}\r\n" for us in halves), halves=min(HALVES, 15_000_000))
         write(at("runs"), lambda halves: " ".join(runs_of(halves)) + "\n")
+        # (every second packet has a preamble of eight ones)
+        shortened = itertools.cycle([0, 12])
+        write(at("short"), lambda halves: spaced(halves[next(shortened) :]))
         write(at("fleet"), spaced, FLEET)
         write(at("fleet_runs"), lambda halves: " ".join(runs_of(halves)) + "\n", FLEET)
         write(at("large_fleet"), spaced, LARGE_FLEET)
@@ -184,10 +195,17 @@ def main():
             ("run", ["run"], "fleet"),
             ("run, in runs", ["run"], "fleet_runs"),
             ("run, of 64 locomotives", ["run"], "large_fleet"),
+            ("timing", ["timing"], "halves"),
+            ("lost", ["lost"], "halves"),
+            ("lost, half of the packets are lost", ["lost"], "short"),
+            ("lost --spikes 5", ["lost", "--spikes", "5"], "halves"),
+            ("lost --spikes 5, half of the packets are lost", ["lost", "--spikes", "5"], "short"),
+            ("what", ["what"], "halves"),
             ("same --who s3, two halves of it", ["same", "--who", "s3"], "two"),
             ("same --who s3, in runs", ["same", "--who", "s3"], "two_runs"),
             (f"encode --hex, {LINES:,} lines", ["encode", "--hex"], "lines"),
             (f"encode, {LINES:,} lines", ["encode"], "lines"),
+            (f"encode --hex --station, {LINES:,} lines", ["encode", "--hex", "--station"], "lines"),
         ]
         measured, unit = (instructions, "million") if COUNTS else (seconds, "s")
         times = {}
@@ -198,7 +216,13 @@ def main():
                     times.setdefault((name, program), []).append(measured([program, *words], at(file)))
 
         def ratio(name, one, other):
-            return statistics.median(x / y for x, y in zip(times[name, one], times[name, other]))
+            pairs = [*zip(times[name, one], times[name, other])]
+            return None if any(None in it for it in pairs) else statistics.median(x / y for x, y in pairs)
+
+        def told(name, one, other, form):
+            """Returns a cell with a ratio, which is empty if a program has refused the command."""
+            found = ratio(name, one, other)
+            return "" if found is None else form.format(found)
 
         heads = ["`wc -w`", *[f"`{os.path.basename(p)}`" for p in programs]]
         heads += [f"`{os.path.basename(programs[0])}` to `{os.path.basename(p)}`" for p in programs[1:]]
@@ -207,10 +231,10 @@ def main():
         for name, _, _ in rows:
             cells = [f"{statistics.median(times[name, 'wc -w']):.3f} {unit}"]
             for program in programs:
-                cells.append(
-                    f"{statistics.median(times[name, program]):.3f} {unit}, {ratio(name, program, 'wc -w'):.2f} times"
-                )
-            cells += [f"{ratio(name, programs[0], other):.2f}" for other in programs[1:]]
+                is_measured = None not in times[name, program]
+                time = f"{statistics.median(times[name, program]):.3f} {unit}, " if is_measured else "refused"
+                cells.append(time + told(name, program, "wc -w", "{:.2f} times"))
+            cells += [told(name, programs[0], other, "{:.2f}") for other in programs[1:]]
             print(f"| {name} | " + " | ".join(cells) + " |")
         beside_c(programs[0], measured, unit, at, room)
 

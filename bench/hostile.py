@@ -49,6 +49,11 @@ def filled(piece, at_most=BYTES):
     return piece * (at_most // len(piece))
 
 
+def bodies_everywhere(one, zero, end=" "):
+    """Half-bits in which bodies begin in as many places as possible, and the finder of lost packets looks for each."""
+    return filled("".join(f"{one if bit == '1' else zero}{end}" * 2 for bit in "00011111000011111"), 3 * HALVES)
+
+
 def inputs():
     show, run = ["show"], ["run"]
     yield "comment lines", show, filled("# of a line\n")
@@ -63,6 +68,14 @@ def inputs():
     yield "runs of two halves", show, filled("58*2 ", 5 * (HALVES // 2))
     yield "runs of one half", show, filled("58*1 ", min(5 * HALVES, BYTES))
     yield "figures of words", ["timing"], track([packet(3, 0x62)])
+    yield "figures of bodies everywhere", ["timing"], bodies_everywhere(50, 85)
+    yield "bodies everywhere", ["lost"], bodies_everywhere(66, 85)
+    yield "bodies everywhere in words", ["lost", "--words"], bodies_everywhere(66, 85)
+    yield "bodies everywhere, with spikes", ["lost", "--spikes", "5"], bodies_everywhere(66, 85)
+    yield "spikes alone", ["lost", "--spikes", "25"], filled("3 ", 2 * HALVES)
+    yield "a spike in each half-bit", ["lost", "--spikes", "25"], filled("28 3 27 ", 8 * (HALVES // 3))
+    yield "a capture", ["what"], track([packet(3, 0x62)])
+    yield "lines for a station, the last of them wrong", ["what"], filled("idle\n", BYTES - 20) + "send 1\nidl\n"
     yield "resets to 64 locomotives", run, FLEET + track([packet(0, 0)])
     yield "all states of 64 locomotives on and off", run, FLEET + track([packet(0, 0xDD, 0x80), packet(0, 0xDD, 0)])
     yield "a state of 64 locomotives on and off", run, FLEET + track([packet(0, 0xDD, 0xFF), packet(0, 0xDD, 0x7F)])
@@ -74,6 +87,9 @@ def inputs():
     yield "blank packet lines", ["encode"], filled("\n")
     yield "packet lines", ["encode"], filled("loco l10239 speed128 f 127\n")
     yield "frames", ["encode", "--hex"], filled("frame 036261\n")
+    yield "frames of zeros", ["encode"], filled("frame 000000000000\n")
+    yield "refused commands", ["encode", "--hex", "--station"], filled("loco s5 cv write 29 6\n")
+    yield "packets without commands", ["encode", "--hex", "--station"], "send 1000\n" * 20_000
     lines = [line_of(packet(3, group, bits)) for bits in range(256) for group in (0xDE, 0xDF, 0xD8, 0xD9, 0xDA)]
     half = "".join(itertools.islice(itertools.cycle(lines), HALVES // 2 // 94))
     yield "functions that conflict, twice", ["same", "--who", "s3"], half + "---\n" + half

@@ -5,7 +5,8 @@
  * tools/c-source of Kogreffyn made this file from code that is proved in Rattle. Do not edit it. Each function shows
  * its name in Rattle. The file has no data but constants, allocates nothing, and needs memcpy, memmove and memset.
  *
- * Crates of others are compiled into this file too. tools/third-party prints their licences. */
+ * Crates of others are compiled into this file too. The file THIRD-PARTY of a release has their licences, which
+ * tools/third-party of the repository prints. */
 #include "dcc.h"
 #include <stddef.h>
 #include <string.h>
@@ -30,8 +31,8 @@
 #define DCC_UNREACHABLE() for (;;) {}
 #define DCC_NOINLINE
 #endif
-/* on AVR the builtin is a call of abort */
-#if defined __GNUC__ && !defined __AVR__ && !defined __PCC__
+/* on AVR and MSP430 the builtin is a call of abort */
+#if defined __GNUC__ && !defined __AVR__ && !defined __MSP430__ && !defined __PCC__
 #define DCC_TRAP() __builtin_trap()
 #else
 #define DCC_TRAP() for (;;) {}

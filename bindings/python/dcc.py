@@ -21,6 +21,7 @@ import os
 import re
 import sys
 from array import array
+from bisect import bisect_right
 from collections import namedtuple
 from dataclasses import dataclass
 from itertools import repeat
@@ -398,15 +399,16 @@ class OffLimits(namedtuple("OffLimits", "count least most")):
         return f"{self.count} from {self.least} to {self.most}"
 
 
-class LostPacket(namedtuple("LostPacket", "at frame preamble ones zeros")):
+class LostPacket(namedtuple("LostPacket", "at frame preamble ones zeros spikes", defaults=(None,))):
     """A packet that a decoder does not hear: the number of its last half-bit, from 1; its bytes; its causes.
 
-    The causes are a ShortPreamble, and OffLimits of the half-bits of ones and of zeros. A cause that the packet does
-    not have is None. Each lost packet has a cause."""
+    The causes are a ShortPreamble, OffLimits of the half-bits of ones and of zeros, and the number of spikes, which
+    only `lost` with its argument `spikes` counts. A cause that the packet does not have is None. Each lost packet has
+    a cause."""
 
     def __str__(self):
         """Returns the line that `dcc lost --words` writes."""
-        named = (self.preamble, ""), (self.ones, "ones "), (self.zeros, "zeros ")
+        named = (self.preamble, ""), (self.ones, "ones "), (self.zeros, "zeros "), (self.spikes, "spikes ")
         causes = ", ".join(f"{name}{cause}" for cause, name in named if cause is not None)
         return f"{self.at} lost {line(self.frame)}: {causes}"
 
@@ -471,12 +473,123 @@ def _off_limits(off):
     return OffLimits(off.count, off.least, off.most) if off.count else None
 
 
-def lost(halves):
-    """Returns the packets that a decoder does not hear in half-bits, which are numbers of microseconds, in order."""
+def lost(halves: Iterable[int], spikes: Optional[int] = None) -> "Iterator[LostPacket]":
+    """Returns the packets that a decoder does not hear in half-bits, which are numbers of microseconds, in order.
+
+    With a number `spikes`, each half-bit shorter than this number of microseconds is a spike, and the packets are those
+    that `dcc lost --spikes` lists (docs/FORMATS.md). The call then reads all half-bits before it returns, and takes ten
+    bytes of memory for each of them. A `Lost` has no such argument.
+
+    >>> halves = durations("58*12 27 3 28 58*15 100*14 58*4 100*4 58*4 100*6 58*2 100*6 58*4 100*8 58*4")
+    >>> [str(it) for it in lost(halves, spikes=5)]
+    ['86 lost loco s3 speed28 f 4: spikes 1']
+
+    Errors: TypeError if spikes is no integer, ValueError if it is not 1 to 25. TypeError or ValueError if an item of
+    the half-bits is no half-bit, without spikes only when the iterator comes to this item."""
+    if spikes is not None:
+        return iter(_lost_with_spikes(halves, _number("a number of microseconds for spikes", spikes, 1, 25)))
     finder = Lost()
     if isinstance(halves, array) and halves.typecode == "H":
         return iter(finder.push_many(halves))
     return (it for us in halves for it in finder.push(us))
+
+
+# For each duration, one of the same class whose bits `Lost` finds and no decoder hears: 70 for ones, 85 for zeros, and
+# 0 for a duration that is neither.
+_NEAREST = array("H", [0] * 26 + [70] * 51 + [85] * 19_924 + [0] * 45_535)
+_END_BITS = None, "H3", "H5"  # the outcomes whose end bit can begin the next preamble
+_LONGEST_BODY = 130  # the half-bits of the longest body, and the 20 half-bits of ones before it
+
+
+class _Heard:
+    """What a decoder hears of half-bits, which are an array: the outcomes, and its state after each half-bit."""
+
+    def __init__(self, halves):
+        self.halves, self.outcomes = halves, Framer().push_many(halves)
+        self.ends = [it.at for it in self.outcomes]
+        self.packets = [it.at for it in self.outcomes if it.refusal is None]
+
+    def last_outcome(self, at):
+        """Returns the last outcome in the first `at` half-bits, or None."""
+        count = bisect_right(self.ends, at)
+        return self.outcomes[count - 1] if count else None
+
+    def unused(self, at):
+        """Returns the number of half-bits at the end of the first `at` half-bits that no outcome uses, at most 20. If
+        a body is unfinished there, returns None."""
+        last, used = self.last_outcome(at), 0
+        if last:
+            used = last.at - 2 if last.refusal in _END_BITS else last.at
+        # an unfinished body, and the ones before it, are in so many half-bits
+        framer = Framer()
+        framer.push_many(self.halves[max(used, at - _LONGEST_BODY) : at])
+        # a half-bit of 0 microseconds is a refusal in each unfinished body
+        return None if framer.push(0) else min(20, at - used)
+
+    def has_packet(self, first, last):
+        """Returns True if a packet ends with one of the half-bits of these numbers, or between them."""
+        return bisect_right(self.packets, last) > bisect_right(self.packets, first - 1)
+
+
+def _joined(halves, limit):
+    """Returns the durations of half-bits that are joined with the spikes next to them, and the number of the last
+    half-bit of each. A spike, and the half-bit directly after it, extend the last joined half-bit. If this next
+    half-bit is a spike too, the half-bit after it is not joined for its sake."""
+    durations, ends, total, takes_next = array("H"), array("Q"), 0, True
+    for at, us in enumerate(halves):
+        if us < limit:
+            total, takes_next = total + us, not takes_next
+        elif takes_next:
+            total, takes_next = total + us, False
+        else:
+            durations.append(min(total, 65535))
+            ends.append(at)
+            total = us
+    durations.append(min(total, 65535))
+    ends.append(len(halves))
+    return durations, ends
+
+
+def _lost_with_spikes(halves, limit):
+    """Returns the packets that `dcc lost --spikes` lists. Errors: those of _number."""
+    halves, view = _fixed(halves)
+    found = []
+    with view:
+        heard = _Heard(halves)
+        durations, ends = _joined(halves, limit)
+        for it in Lost().push_many(array("H", map(_NEAREST.__getitem__, durations))):
+            # the body ends with the joined half-bit number `it.at`, and `start` joined half-bits are before it
+            start, at = it.at - 18 * len(it.frame) - 2, ends[it.at - 1]
+            before, last = ends[start - 1], heard.last_outcome(at)
+            if heard.unused(at) is None or (last and last.at == at) or heard.has_packet(before + 1, at):
+                continue
+            ones = 0
+            while ones < min(20, start) and 26 <= durations[start - ones - 1] <= 76:
+                ones += 1
+            first = start - ones
+            unused, preamble, counted = heard.unused(before) or 0, None, durations[first : it.at]
+            if min(ones, unused) < 20:
+                is_after = unused < ones and last and last.refusal and at - last.at < 255
+                preamble = ShortPreamble(min(ones, unused), last.at if is_after else None)
+            spikes = 0
+            for joined in range(first, it.at):
+                begin = ends[joined - 1] if joined else 0
+                spikes += min(65535, sum(us < limit for us in view[begin : ends[joined]]))
+            off = [[us for us in counted if is_off(us)] for is_off in (_is_off_one, _is_off_zero)]
+            found.append(LostPacket(at, it.frame, preamble, *map(_off_limits_of, off), spikes or None))
+    return found
+
+
+def _is_off_one(us):
+    return 26 <= us <= 51 or 65 <= us <= 76
+
+
+def _is_off_zero(us):
+    return 77 <= us <= 89 or 10001 <= us <= 20000
+
+
+def _off_limits_of(halves):
+    return OffLimits(len(halves), min(halves), max(halves)) if halves else None
 
 
 @dataclass(frozen=True)
@@ -1266,7 +1379,8 @@ class Station:
         command. The directions of the locomotives stay. Removes each waiting command that sets the speed of a
         locomotive to a step, and returns the number of these commands. All other commands wait. If one of them was
         partly sent, all its copies are sent again. A stop that is called while another stop waits starts the copies
-        again. No locomotive moves again before the station gets a command that sets a speed to a step."""
+        again. A locomotive that hears a copy of the stop, and all later frames, stands until the station
+        gets a command that sets a speed to a step."""
         return _station_stop(self._station)
 
     def next(self) -> bytes:
@@ -1277,7 +1391,8 @@ class Station:
 
     def forget(self, address: str) -> None:
         """Removes the entries with an address, 's3' or 'l1000', for example when a locomotive leaves the track. The
-        waiting commands stay, and become entries as before. No entry has the address 'all'.
+        waiting commands stay. A command of which no copy was sent becomes an entry as before. A partly sent
+        command becomes no entry again. No entry has the address 'all'.
 
         Errors: Refused, P1, P2, P10 or P11 if there is no such address."""
         _check(_station_forget(self._station, *_address(address)), "P")

@@ -133,6 +133,36 @@ def is_for(decoder, line):
     )
 
 
+def wrong(frame):
+    """The half-bits of the body of a frame, whose error byte may be wrong."""
+    bits = [bit for byte in frame for bit in (0, *(byte >> place & 1 for place in range(7, -1, -1)))] + [1]
+    return [us for bit in bits for us in ((58, 58) if bit else (100, 100))]
+
+
+def spoilt(chance):
+    """The words of a random capture, whose packets have spikes, odd half-bits and wrong lengths, and begin in other
+    packets."""
+    words = []
+    for _ in range(chance.randrange(1, 5)):
+        frame = [chance.randrange(256) for _ in range(chance.choice([1, 2, 2, 3, 4, 5, 6]))]
+        error = 0
+        for byte in frame:
+            error ^= byte
+        frame.append(error ^ (chance.random() < 0.2))
+        faults = chance.choice([0, 0.005, 0.02])
+        ones = [58] * chance.randrange(6, 40)
+        if chance.random() < 0.4:  # the first byte of a packet, in which this packet begins
+            ones = [58] * 20 + [100] * chance.choice([2, 2, 4, 6]) + [58] * chance.randrange(8, 18, 2)
+        for us in ones + wrong(frame):
+            first, spike = chance.randrange(1, us - 5), chance.randrange(0, 6)
+            kinds = (
+                *([first, spike, us - spike - first], [us, f"{spike}*{chance.randrange(1, 5)}"], [spike, us], [first]),
+                *([us, us], [], [chance.choice([25, 26, 51, 65, 76, 77, 89, 10001, 20001])], [us, "0*200", us]),
+            )
+            words += map(str, chance.choice(kinds) if chance.random() < faults else [us])
+    return words
+
+
 def to_capture(data, *words):
     """The half-bits and the sentence of tools/to-capture."""
     out, error, _ = told([os.path.join(TOP, "tools", "to-capture"), *words], data)
@@ -1333,6 +1363,59 @@ class ByHand(unittest.TestCase):
                 call()
             self.assertEqual(str(said.exception), text)
 
+    def test_packets_with_spikes_by_hand(self):
+        capture = "58*12 27 3 28 58*15 100*14 58*4 100*4 58*4 100*6 58*2 100*6 58*4 100*8 58*4"
+        halves = dcc.capture(capture)
+        for given in halves, list(halves), iter(halves):
+            found = list(dcc.lost(given, spikes=5))
+            self.assertEqual(found, [dcc.LostPacket(86, SPEED, None, None, None, 1)])
+        self.assertEqual(str(found[0]), "86 lost loco s3 speed28 f 4: spikes 1")
+        self.assertEqual([it.spikes for it in dcc.lost(halves, spikes=3)], [None])  # (its preamble is too short)
+        self.assertEqual(list(dcc.lost([], spikes=5)), [])
+        causes = dcc.ShortPreamble(12, 3), dcc.OffLimits(1, 65, 65), dcc.OffLimits(2, 85, 86), 7
+        words = "preamble 12 after 3, ones 1 from 65 to 65, zeros 2 from 85 to 86, spikes 7"
+        self.assertEqual(str(dcc.LostPacket(99, SPEED, *causes)), f"99 lost loco s3 speed28 f 4: {words}")
+        # without spikes, a packet has no number of spikes
+        (packet,) = dcc.lost([58] * 16 + dcc.halves(SPEED)[28:])
+        self.assertEqual((packet.preamble, packet.spikes), (dcc.ShortPreamble(16, None), None))
+        for spikes, kind in ((0, ValueError), (26, ValueError), (-1, ValueError), ("5", TypeError), (5.0, TypeError)):
+            self.assertRaises(kind, dcc.lost, halves, spikes)
+        for bad, kind in (([58, -1], ValueError), ([58, "58"], TypeError), (5, TypeError)):
+            self.assertRaises(kind, dcc.lost, bad, 5)
+        with self.assertRaises(ValueError) as said:
+            dcc.lost(halves, spikes=26)
+        self.assertEqual(str(said.exception), "a number of microseconds for spikes is 1 to 25, not 26")
+
+    def test_packets_with_spikes_in_short_captures(self):
+        bodies = {it: " ".join(map(str, dcc.halves(bytes.fromhex(it))[28:])) for it in ("036261", "050207")}
+        body = bodies["036261"]
+        captures = [
+            *("58*12 3 3 58*12", "58*12 30 24 4 58*15", "66*12 27 3 28 66*2", "3 58*16", "3 3 58*16"),
+            *("58*12 29 0*70001 29 58*15", "58*12 65535 3 56 58*15", "58*12 40000 4 40000 58*15"),
+            f"58*20 {bodies['050207']}",  # its last four ones are before the next body
+            "58*20 100*2 58*12 100*2 58*12",
+        ]
+        captures = [f"{it} {body}" for it in captures]
+        # a packet in the packet F0 33 23 18 F8, and one at the end of the refusal 01 0F 03 62 61
+        for frame in "f0332318f8", "010f036261", "f717e8bff443":
+            captures.append(f"58*28 {' '.join(map(str, wrong(bytes.fromhex(frame))))}")
+        captures[-1] += " 100*2 58*6 100*2 58*8 100*4 58*6"  # the packet 84 77 F3 ends here, and begins in F7 .. 43
+        for count in range(184, 191):  # spikes in a packet, which is 252 to 258 half-bits behind a refusal
+            captures.append(f"58*20 100 58*12 100 1*{count} {body[4:]}")
+        for us in 25, 26, 27, 51, 52, 64, 65, 76, 77, 78, 89, 90, 10000, 10001, 20000, 20001:
+            captures += (f"58*28 {us} {body[4:]}", f"58*12 {us} 58*9 {body}", f"58*14 {us - 5} 1 4 58 {body}")
+        captures += (" ".join(spoilt(random.Random(seed))) for seed in range(400))
+        listings = ""
+        for seed, capture in enumerate(captures):
+            limits = (1, 2, 5, 5, 5, 21, 25)[seed % 7], 5
+            for limit in sorted({*limits}):
+                listing = program("lost", "--spikes", str(limit), "--words", text=capture + "\n")
+                found = "".join(f"{it}\n" for it in dcc.lost(dcc.capture(capture), spikes=limit))
+                self.assertEqual(found, listing, f"spikes below {limit}: {capture}")
+                listings += listing
+        for cause in ": spikes ", ": preamble ", ", spikes 2\n", " after ", ": ones ", ": zeros ", "spikes 65535\n":
+            self.assertIn(cause, listings)
+
     def test_threads_on_one_object(self):
         self.assertEqual(told([sys.executable, "-c", THREADS], b""), (b"ended\n", b"", 0))
 
@@ -1497,6 +1580,22 @@ class RandomPackets(unittest.TestCase):
         self.assertTrue("".join(f"{it}\n" for it in dcc.lost(halves)) == wanted)
         for cause in ": preamble 17\n", ": preamble 12 after ", ": ones ", ": zeros ", ": preamble 12, ones ":
             self.assertGreater(wanted.count(cause), 100, cause)
+
+    def test_with_spikes_is_lost_what_lost_lists(self):
+        chance, halves = random.Random(5), []
+        for us in self.faulty():
+            if chance.random() < 0.01:
+                spike = chance.randrange(1, 7)
+                first = chance.randrange(1, max(2, us - spike))
+                halves += [first, spike, max(0, us - spike - first)]
+            else:
+                halves.append(us)
+        for limit, halves in ((5, halves), (25, halves[:200_000])):
+            wanted = program("lost", "--spikes", str(limit), "--words", text="\n".join(map(str, halves)) + "\n")
+            self.assertTrue("".join(f"{it}\n" for it in dcc.lost(halves, limit)) == wanted, f"spikes below {limit}")
+            causes = ": preamble 17\n", " after ", ": ones ", ": zeros ", ": spikes 1\n", ", spikes 1\n", "spikes 2\n"
+            for cause in causes:
+                self.assertGreater(wanted.count(cause), 20, f"spikes below {limit}: {cause}")
 
     def test_statistics_are_what_timing_writes(self):
         self.assertEqual(timing_text(dcc.timing(self.halves)), program("timing", text=" ".join(map(str, self.halves))))

@@ -24,8 +24,56 @@ import words  # noqa: E402
 
 PROGRAM = os.environ.get("DCC_PROGRAM", f"{TOP}/crates/dcc/out/dcc")
 RATE = 8_000_000
+# the files of examples/analyser/forms.txt with packets that sigrok-cli reads, and their channels. Without a name,
+# sigrok-cli takes the first channel
+VCD = {
+    **dict.fromkeys(("sigrok", "sigrok, CR LF", "sigrok, two channels", "sigrok, ends in a level", "sigrok, 1 us"), ""),
+    **dict.fromkeys(("sigrok, 100 ns", "sigrok, 10 ns", "numbers that begin with 0, in a VCD"), ""),
+    **dict.fromkeys(("$attrbegin of GTKWave", "values on lines of their own", "values before the first time"), ""),
+    **dict.fromkeys(("one bit as a vector", "one bit as a vector, in a capital", "a comment with times in it"), ""),
+    **dict.fromkeys(("not known at the start", "a time that is none", "a VCD that goes back"), ""),
+    **{"META within a file": "", "wires of several modules": "track", "a name of two words": "track[0]"},
+    **{"sigrok, the second is chosen": "D1"},
+}
+CSV = "sigrok, csv", "sigrok, csv, a rate in kHz", "sigrok, csv, a rate in GHz", "sigrok, csv, a rate in Hz"
+UNREAD = {
+    "sigrok chooses a channel by its name": (
+        "sigrok, chosen by number", "sigrok, chosen by id", "one wire with two names",
+    ),
+    "sigrok counts too many samples": ("sigrok, late", "sigrok, 1 ps", "a time of too many digits, in a VCD"),
+    "sigrok does not read such files": (
+        "sigrok, its rate before the file", "texts and numbers whose ids look like levels", "a repeated value",
+        "a bus and other values beside it", "ids that are equal numbers", "sigrok, csv, a rate that begins with 0",
+        "sigrok, csv, a name with a comma",
+        "sigrok, csv, a name with a comma and a blank", "sigrok, csv:label=off, a name with a comma and a blank",
+        "sigrok, csv, two channels", "sigrok, csv:label=off",
+    ),
+    "sigrok does not read times": (
+        "sigrok, csv:time=true:dedup=true", "sigrok, csv:time=true", "sigrok, csv:label=off:time=true",
+    ),
+}  # fmt: skip
+# a decoder on top of the decoder, which shows what it gets
+STACKED = """
+import sigrokdecode as srd
+
+
+class Decoder(srd.Decoder):
+    api_version, id, name, longname, desc, license = 3, "stacked", "Stacked", "Stacked", "Shows packets.", "mit"
+    inputs, outputs, tags = ["dcc"], [], ["Debug/trace"]
+    annotations = (("got", "What it gets"),)
+
+    def reset(self):
+        pass
+
+    def start(self):
+        self.out_ann = self.register(srd.OUTPUT_ANN)
+
+    def decode(self, first, last, what):
+        words = [it if isinstance(it, str) else bytes(it).hex() for it in what]
+        self.put(first, last, self.out_ann, [0, ["|".join(words)]])
+"""
 # the least number of tests, with those that are left out
-LEAST = 11
+LEAST = 13
 
 
 def told(command, halves):
@@ -81,6 +129,24 @@ def faulty_halves(count, seed):
     return halves
 
 
+def shown_in(file, options, kinds, folder=f"{HERE}/decoders", decoder="dcc"):
+    """The annotations that sigrok-cli shows of a file: the first sample, the last sample and the text."""
+    ran = subprocess.run(
+        ["sigrok-cli", "-i", file, *options, "-A", kinds, "--protocol-decoder-samplenum"],
+        env={**os.environ, "SIGROKDECODE_DIR": folder},
+        capture_output=True,
+        text=True,
+        check=True,
+    )
+    found = (re.match(rf"(\d+)-(\d+) {decoder}-1: (.*)", line).groups() for line in ran.stdout.splitlines())
+    return [(int(first), int(last), text) for first, last, text in found]
+
+
+def is_vcd(path):
+    with open(path, encoding="latin-1") as file:
+        return "$enddefinitions" in file.read()
+
+
 class Words(unittest.TestCase):
     def test_words_and_packet_lines_are_those_of_the_program(self):
         frames = list(random_frames(4000, 1)) + [with_error_byte([0, 0x40 | bits]) for bits in range(64)]
@@ -127,8 +193,9 @@ class Framer(unittest.TestCase):
 
 @unittest.skipUnless(shutil.which("sigrok-cli"), "sigrok-cli is not installed")
 class Sigrok(unittest.TestCase):
-    def annotations(self, halves, kinds, options=(), rate=RATE, jitter=0):
-        """Writes half-bits as a VCD file, and returns the annotations of the decoder, and the samples of the edges."""
+    def annotations(self, halves, kinds, options=(), rate=RATE, jitter=0, stacked=False):
+        """Writes half-bits as a VCD file, and returns the annotations of the decoder, and the samples of the edges. If
+        stacked is true, the annotations are those of the decoder STACKED on top of it."""
         some, at, level, edges, lines = random.Random(4), 1000, 0, [1000], []
         for us in halves:
             at += us * rate // 1_000_000 + some.randint(-jitter, jitter)
@@ -140,17 +207,17 @@ class Sigrok(unittest.TestCase):
             with open(f"{room}/track.vcd", "w", encoding="utf-8") as file:
                 file.write("$timescale 1 ns $end\n$var wire 1 ! track $end\n$enddefinitions $end\n#0 0!\n")
                 file.write("\n".join(lines) + "\n#" + str(edges[-1] * 1_000_000_000 // rate + 1_000_000) + " 0!\n")
-            reads = ["-i", f"{room}/track.vcd", "-I", f"vcd:downsample={1_000_000_000 // rate}"]
-            shows = ["-P", ":".join(["dcc", *options]), "-A", f"dcc={kinds}", "--protocol-decoder-samplenum"]
-            ran = subprocess.run(
-                ["sigrok-cli", *reads, *shows],
-                env={**os.environ, "SIGROKDECODE_DIR": f"{HERE}/decoders"},
-                capture_output=True,
-                text=True,
-                check=True,
-            )
-        found = [re.match(r"(\d+)-(\d+) dcc-1: (.*)", line).groups() for line in ran.stdout.splitlines()]
-        return [(int(first), int(last), text) for first, last, text in found], edges
+            reads = ["-I", f"vcd:downsample={1_000_000_000 // rate}"]
+            decoder = ":".join(["dcc", *options])
+            if not stacked:
+                return shown_in(f"{room}/track.vcd", [*reads, "-P", decoder], f"dcc={kinds}"), edges
+            shutil.copytree(f"{HERE}/decoders/dcc", f"{room}/decoders/dcc")
+            os.mkdir(f"{room}/decoders/stacked")
+            for name, text in (("__init__", '"""Shows packets."""\nfrom .pd import Decoder\n'), ("pd", STACKED)):
+                with open(f"{room}/decoders/stacked/{name}.py", "w", encoding="utf-8") as file:
+                    file.write(text)
+            options = [*reads, "-P", f"{decoder},stacked"]
+            return shown_in(f"{room}/track.vcd", options, "stacked", f"{room}/decoders", "stacked"), edges
 
     def test_packets_stand_over_their_samples(self):
         halves = faulty_halves(120, 5)
@@ -199,6 +266,60 @@ class Sigrok(unittest.TestCase):
         split = [*halves[:28], 50, 3, 47, *halves[29:]]
         self.assertEqual(self.annotations(split, "packet")[0], [])
         self.assertEqual(len(self.annotations(split, "packet", ["spikes=10"])[0]), 1)
+
+    def test_a_decoder_on_top_gets_each_packet(self):
+        halves = faulty_halves(120, 9)
+        shown, edges = self.annotations(halves, "", stacked=True)
+        wanted = []
+        for line in told(["show"], halves) + told(["lost"], halves):
+            at, *named = line.split()
+            if named[0] == "lost":
+                frame, what = named[1][:-1], ["LOST", named[1][:-1], line.split(": ", 1)[1]]
+            elif named[0] == "refused":
+                frame, what = "".join(named[2:]), ["REFUSED", named[1], "".join(named[2:])]
+            else:
+                frame, what = named[0], ["PACKET", named[0]]
+            wanted.append((frame and edges[int(at) - 9 * len(frame) - 2], edges[int(at)], "|".join(what)))
+        self.assertEqual([it[1:] for it in shown], [it[1:] for it in sorted(wanted, key=lambda it: it[1])])
+        begins = {it[1:]: it[0] for it in wanted}
+        for first, *rest in shown:
+            self.assertIn(begins[tuple(rest)], ("", first))
+        for kind in ("PACKET", "REFUSED|H1|", "REFUSED|H5|", "LOST"):
+            self.assertTrue(any(it.startswith(kind) for _, _, it in shown), kind)
+
+    def test_files_of_analysers_are_listed_as_dcc_lists_them(self):
+        with tempfile.TemporaryDirectory() as room:
+            subprocess.run([f"{TOP}/tools/analyser-forms", room], check=True)
+            files = {}
+            for it in os.listdir(room):
+                if it.endswith(".name"):
+                    with open(f"{room}/{it}", encoding="utf-8") as name, open(f"{room}/{it[:-5]}.packets") as packets:
+                        files[name.read().strip()] = it[:-5], int(packets.read())
+            # each file of sigrok, and each VCD with packets, is in one of the lists
+            of_vcd = [it for it, (number, _) in files.items() if is_vcd(f"{room}/{number}.file")]
+            named = {*VCD, *CSV, *(it for names in UNREAD.values() for it in names)}
+            lacking = [it for it in {*of_vcd, *(it for it in files if "csv" in it)} - named if files[it][1]]
+            self.assertEqual(lacking, [])
+            for name in (*VCD, *CSV):
+                with self.subTest(name):
+                    self.check_file(room, *files[name], name)
+
+    def check_file(self, room, number, packets, name):
+        file, channel = f"{room}/{number}.file", VCD.get(name, "")
+        with open(file, encoding="latin-1") as text:
+            is_ns = re.search(r"timescale\s+1 ?ns", text.read(200))
+        reads = f"vcd{':downsample=1000' * bool(is_ns)}" if name in VCD else "csv:column_formats=l:header=yes"
+        reads += "" if name in VCD else ":samplerate=1000000"
+        decoder = f"dcc{f':track={channel}' * bool(channel)}"
+        ran = subprocess.run([f"{TOP}/tools/to-capture", "-c", channel, file], capture_output=True, text=True)
+        halves = ran.stdout.split()
+        lines = [it.split(" ", 1) for it in told(["show", "--plain"], halves)]
+        shown = [text for _, _, text in shown_in(file, ["-I", reads, "-P", decoder], "dcc=packet:refused:lost")]
+        # the last half-bit of the capture is after the last edge. A packet that ends with the last edge can be missing
+        wanted = [text for at, text in lines if int(at) < len(halves)]
+        self.assertEqual(len(lines), packets)
+        self.assertGreater(len(shown), 0)
+        self.assertIn(shown, (wanted, [text for at, text in lines if int(at) < len(halves) - 1]))
 
     def test_cutouts_and_slow_recordings(self):
         halves = halves_of(bytes.fromhex("036261")) + [28, 450] + [58] * 10

@@ -1,8 +1,9 @@
-/* Random and mutated commands for the command station of examples/firmware/command_station, with sanitizers. They come
- * to two ports. The program compares each answer with that of a second writing of the commands and of their states,
- * which is written with the C library, and each packet on both tracks with the packets that the station may send.
+/* Sequences of random and mutated commands for the command station of examples/firmware/command_station, with
+ * sanitizers. The commands come to two ports. Half of the sequences begin with a new station. The program compares each
+ * answer with that of a second writing of the commands and of their states, which is written with the C library, and
+ * each packet on both tracks with the packets that the station may send.
  *
- *     fuzz_dccex COUNT [SEED]        so many commands
+ *     fuzz_dccex COUNT [SEED]        so many sequences of 1 to 7 commands
  */
 #include "dccex.h"
 #include <ctype.h>
@@ -151,9 +152,12 @@ static bool is_word(int i, const char *word) {
     return i < count && strcasecmp(words[i], word) == 0;
 }
 
+/* (-0 is 0 in both bases) */
 static bool is_hex_number(const char *token) {
-    size_t len = strlen(token);
-    return len > 0 && len <= 5 && strspn(token, "0123456789abcdefABCDEF") == len && strtol(token, NULL, 16) <= 32767;
+    const char *digits = token + (*token == '-');
+    size_t len = strlen(digits);
+    return len > 0 && len <= 5 && strspn(digits, "0123456789abcdefABCDEF") == len &&
+        is_between(strtol(token, NULL, 16), 0, 32767);
 }
 
 /* Reads the values of a command. Returns false if there are too many. */
@@ -463,6 +467,12 @@ static void follow(void) {
 /* ---- the tracks ---- */
 
 static dcc_framer main_track;
+/* The programming track, and what the decoder on it draws. */
+static struct {
+    dcc_framer framer;
+    bool draws;
+    uint32_t left, joined;
+} programming;
 
 static bool is_of_main(const dcc_frame *frame) {
     char line[DCC_LINE];
@@ -490,20 +500,18 @@ static void check_programming(const dcc_outcome *outcome, bool is_joined) {
 
 /* Lets half-bits pass. The decoder on the programming track draws its current at random. */
 static void pass(uint32_t halves) {
-    static dcc_framer programming_track;
-    static bool draws;
-    static uint32_t left, joined;
     dcc_outcome outcome;
     for (; halves > 0; halves--) {
         if (dcc_push(&main_track, dccex_half(&station), &outcome)) check_main(&outcome);
-        if (left-- == 0) {
-            draws = !draws;
-            left = random_below(120);
+        if (programming.left-- == 0) {
+            programming.draws = !programming.draws;
+            programming.left = random_below(120);
         }
-        uint16_t us = dccex_programming_half(&station, draws);
-        if (us == 0) programming_track = dcc_framer_new();
-        joined = station.programming.is_joined ? 2 * DCC_HALVES : joined > 0 ? joined - 1 : 0;
-        if (us > 0 && dcc_push(&programming_track, us, &outcome)) check_programming(&outcome, joined > 0);
+        uint16_t us = dccex_programming_half(&station, programming.draws);
+        if (us == 0) programming.framer = dcc_framer_new();
+        if (station.programming.is_joined) programming.joined = 2 * DCC_HALVES;
+        else if (programming.joined > 0) programming.joined--;
+        if (us > 0 && dcc_push(&programming.framer, us, &outcome)) check_programming(&outcome, programming.joined > 0);
         if (halves % 8 == 0) process(1);
     }
     process(1);
@@ -641,15 +649,29 @@ static void flood(void) {
     forget_answers();
 }
 
-int main(int argc, char **argv) {
-    unsigned long times = argc > 1 ? strtoul(argv[1], NULL, 10) : 100000;
-    if (argc > 2) seed = (uint32_t)strtoul(argv[2], NULL, 10);
+/* A new station, and a second writing without commands. */
+static void begin(void) {
+    memset(&station, 0, sizeof station);
+    memset(&model, 0, sizeof model);
+    memset(&task, 0, sizeof task);
+    memset(&programming, 0, sizeof programming);
+    main_track = dcc_framer_new();
     dccex_begin(&station);
-    for (unsigned long i = 0; i < times; i++) {
-        try_command();
-        if (random_below(4) == 0) pass(random_below(4000));
+}
+
+int main(int argc, char **argv) {
+    unsigned long sequences = argc > 1 ? strtoul(argv[1], NULL, 10) : 100000, times = 0;
+    if (argc > 2) seed = (uint32_t)strtoul(argv[2], NULL, 10);
+    begin();
+    for (unsigned long i = 0; i < sequences; i++) {
+        if (random_below(2)) begin();
+        for (uint32_t left = 1 + random_below(7); left > 0; left--) {
+            try_command();
+            times++;
+            if (random_below(8) == 0) pass(random_below(4000));
+        }
         if (random_below(50) == 0) pass(100000);
-        if (random_below(20) == 0) flood();
+        if (random_below(40) == 0) flood();
     }
     check(accepted > times / 9 && refused > times / 9 && dropped > times / 40 && values > times / 400 && known > 0,
         "a mix", "");

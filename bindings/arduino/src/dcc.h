@@ -28,6 +28,9 @@
  *
  * If the caller breaks one of these rules, the behaviour is undefined, as with memcpy.
  *
+ * Two programs can keep more rules (docs/C.md, "What is proved"). If nothing waits, the registers of the decoder of one
+ * program, except the pending write, then have the values that the commands to the station of the other program give.
+ *
  * There are archives for 64-bit Linux on x86-64 and aarch64. tools/c-for-mcu makes archives for Cortex-M0+, M3, M4 and
  * RISC-V rv32imac. For every other little-endian target, for example AVR, compile dcc.c, which tools/c-source writes.
  * The proofs use 64-bit lengths, so lengths are uint64_t on each target. docs/C.md lists what you trust.
@@ -43,15 +46,17 @@ extern "C" {
 #endif
 
 /* A byte of padding. Compilers for AVR, for MSP430, and for 32-bit x86 without Windows align numbers of 64 bits to
- * fewer bytes than other compilers. On these targets this macro inserts the padding that the others insert, so an
- * object has the same layout on each target. */
+ * fewer bytes than other compilers. On these targets this macro inserts the padding that the others insert, so each
+ * field of an object has the same place on each target. */
 #if defined __AVR__ || defined __MSP430__ || (defined __i386__ && !defined _WIN32)
 #define DCC_FREE_BYTE unsigned : 8;
 #else
 #define DCC_FREE_BYTE
 #endif
 
-/* The version of this header and of the library, as `dcc --version` prints it. */
+/* The version of this header and of the library, as `dcc --version` prints it. If the first or the second number of two
+ * versions differs, the sizes and the fields of structs can differ, and functions can be missing. So compile a program
+ * anew with the header of its library, and store no struct for another version. */
 #define DCC_VERSION "0.2.0"
 
 /* Error codes. A function returns the number of an error code, or stores this number in the field refusal of an
@@ -347,7 +352,8 @@ typedef struct {
     uint8_t speed_mode;    /* 0 for stop, 1 for emergency stop, else the number of steps: 14, 28 or 126 */
     uint8_t step;          /* the speed step, from 1; 0 if the decoder is stopped. SPEED128 sets the step to bits - 1.
                               SPEED28 sets the step to bits - 3 with 28 steps, and to bits / 2 - 1 with 14 steps (bit 1
-                              of CV29 is 0). If this number is below 1, the packet stops the decoder */
+                              of CV29 is 0). If this number is below 1, the packet stops the decoder. A SPEED28 to all
+                              locomotives with bits above 3 changes nothing */
     bool forward;
     uint16_t address;
     dcc_frame pending;     /* the CV write that takes effect if the decoder hears the same packet again */
@@ -652,8 +658,8 @@ uint8_t dcc_writer_answer(dcc_writer *writer, bool yes);
 
 /* A command station, which has waiting commands and entries. A station sends the entries again and again while no
  * command waits. The struct is opaque: do not read or write its fields. Before its first dcc_station_new, a station
- * must be all zeros, as in `static dcc_station station;`. A station of zeros accepts no command and sends idle
- * packets. */
+ * must be all zeros, as in `static dcc_station station;`. A station of zeros accepts no command. It sends idle packets,
+ * and one stop after a call of dcc_station_stop. */
 typedef struct {
     uint8_t kept[1801];
 } dcc_station;
@@ -676,17 +682,18 @@ uint8_t dcc_station_command(dcc_station *station, const uint8_t *frame, uint64_t
 void dcc_station_next(dcc_station *station, dcc_frame *frame);
 
 /* Removes the entries with an address of locomotives, for example when a locomotive leaves the track. The parameter to
- * is the kind of the address, DCC_SHORT or DCC_LONG, and address is its number. The waiting commands stay, and become
- * entries as before. No entry has the address of all locomotives, so DCC_ALL removes nothing. Returns 10 (P10) if to is
- * no kind of an address, 1 or 2 (P1, P2) if there is no such address. In these cases nothing changes. */
+ * is the kind of the address, DCC_SHORT or DCC_LONG, and address is its number. The waiting commands stay. A command of
+ * which no copy was sent becomes an entry as before. A partly sent command becomes no entry again. No entry has the
+ * address of all locomotives, so DCC_ALL removes nothing. Returns 10 (P10) if to is no kind of an address, 1 or 2 (P1,
+ * P2) if there is no such address. In these cases nothing changes. */
 uint8_t dcc_station_forget(dcc_station *station, uint8_t to, uint16_t address);
 
 /* Stops all locomotives. The next frames are copies of 00 71 71, the emergency stop of all locomotives, as many as of
  * a command. The directions of the locomotives stay. The function removes each waiting command that sets the speed of
  * a locomotive to a step, and returns the number of these commands. All other commands wait until the stop is sent. If
  * one of them was partly sent, all its copies are sent again. The stop takes no place in the queue. A stop that is
- * called while another stop waits starts the copies again. No locomotive moves again before the station accepts a
- * command that sets a speed to a step. */
+ * called while another stop waits starts the copies again. A locomotive that hears a copy of the stop, and all later
+ * frames, stands until the station accepts a command that sets a speed to a step. */
 uint8_t dcc_station_stop(dcc_station *station);
 
 /* Returns the number of waiting commands. A stop that waits does not count. */

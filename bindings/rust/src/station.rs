@@ -70,7 +70,8 @@ impl Station {
     }
 
     /// Removes the entries with this address, for example when a locomotive leaves the track. The waiting commands
-    /// stay, and become entries as before. No entry has the address of all decoders. Errors: P1 or P2 if there is no
+    /// stay. A command of which no copy was sent becomes an entry as before. A partly sent command becomes no
+    /// entry again. No entry has the address of all decoders. Errors: P1 or P2 if there is no
     /// such address.
     pub fn forget(&mut self, to: Address) -> Result<(), LineFault> {
         let (kind, number) = to.numbers();
@@ -84,7 +85,8 @@ impl Station {
     /// command. The directions of the locomotives stay. The function removes each waiting command that sets the speed
     /// of a locomotive to a step, and returns the number of these commands. All other commands wait. If one of them was
     /// partly sent, all its copies are sent again. A stop that is called while another stop waits starts the copies
-    /// again. No locomotive moves again before the station gets a command that sets a speed to a step.
+    /// again. A locomotive that hears a copy of the stop, and all later frames, stands until the station gets
+    /// a command that sets a speed to a step.
     ///
     /// ```
     /// let mut station = dcc::Station::new(8, 16, 2).unwrap();

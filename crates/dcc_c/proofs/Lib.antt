@@ -14,8 +14,10 @@ pub mod ServicePacketLemmas
 pub mod PacketFieldLemmas
 mod KeptPacketLemmas
 mod WorkedExamples
+mod ZeroExamples
 pub mod TrackPartLemmas
 pub mod PossibleLocoLemmas
 pub mod PossibleBoardLemmas
 pub mod DecoderLemmas
 pub mod BoardDecoderLemmas
+pub mod LayoutLemmas

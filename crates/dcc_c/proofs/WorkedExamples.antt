@@ -1,5 +1,6 @@
 -- Zeros in a C program's memory are a station that has no room. Packets and service packets as fields.
-use Rattle.std.proofs.Common.{◌≡◌, ℕ, true, false, refl, inl, arith, replicate, lit≤}
+-- Half-bits that are measured with an error.
+use Rattle.std.proofs.Common.{◌≡◌, ℕ, true, false, refl, inl, inr, arith, replicate, lit≤}
 use Rattle.dcc_packet.specs.declared.cv.BitPlace.{BitPlace}
 use Rattle.dcc_packet.specs.declared.cv.CvNumber.{CvNumber}
 use Rattle.dcc_packet.specs.declared.packet.Packet.TheVariants.{Idle}
@@ -9,6 +10,7 @@ use Rattle.dcc_c.specs.declared.service_packet.DccServicePacket.{DccServicePacke
 use Rattle.dcc_c.specs.declared.station_ring.DccRing.{DccRing}
 use Rattle.dcc_c.specs.declared.station_numbers.DccStation.{DccStation}
 use Rattle.dcc_c.specs.KeptPacketLaw.{IsKeptPacket}
+use Rattle.dcc_c.specs.Layouts.{IsMeasuredAs}
 use Rattle.dcc_c.specs.PacketFields.{fault_or_zero, packet_of_fields}
 use Rattle.dcc_c.specs.Packets.{of_kind}
 use Rattle.dcc_c.specs.ServicePackets.{service_packet_of, service_packet_answer, service_packet_numbers}
@@ -65,4 +67,20 @@ rows = record {
   packet_of_kind_13_is_p10 = refl;
   address_of_kind_3_is_p10 = refl;
   group_4_is_p10 = refl;
+}
+
+record MeasuredRows : Type 0 where
+  error_of_6_in_a_nominal_one : IsMeasuredAs 58 64
+  error_of_6_in_a_nominal_zero : IsMeasuredAs 100 94
+  error_of_3_in_the_longest_one : IsMeasuredAs 61 64
+  error_of_4_in_the_longest_one : ¬ IsMeasuredAs 61 65
+  error_of_4_in_the_shortest_one : ¬ IsMeasuredAs 55 51
+
+measured_rows : MeasuredRows
+measured_rows = record {
+  error_of_6_in_a_nominal_one = inr refl;
+  error_of_6_in_a_nominal_zero = inr refl;
+  error_of_3_in_the_longest_one = inl (omega arith, omega arith);
+  error_of_4_in_the_longest_one = elim [ inl within ↦ omega (arith, within) | inr same ↦ cc ];
+  error_of_4_in_the_shortest_one = elim [ inl within ↦ omega (arith, within) | inr same ↦ cc ];
 }

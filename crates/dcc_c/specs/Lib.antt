@@ -27,3 +27,4 @@ pub mod HeldBoards
 pub mod BoardDecoders
 pub mod Inner
 pub mod Statistics
+pub mod Layouts

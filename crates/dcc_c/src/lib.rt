@@ -13,6 +13,7 @@ mod framer;
 mod functions;
 mod halves;
 mod kept_packet;
+pub mod laws;
 mod line;
 mod loco;
 mod loco_numbers;

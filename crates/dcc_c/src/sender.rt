@@ -2,6 +2,7 @@
 
 ghost use Rattle.std.specs.Prelude.{◌≡◌, ◌≢◌, ◌≤◌, ℕ, List, [], ◌∷◌, MatchResult};
 ghost use Rattle.dcc_wire.specs.declared.timing.Timing.{Timing};
+ghost use Rattle.dcc_wire.specs.Frames.{IsFrame};
 ghost use Rattle.dcc_wire.specs.HalvesLeft.{halves_left};
 ghost use Rattle.dcc_wire.specs.Sending.{sent};
 ghost use Rattle.dcc_c.specs.Senders.{HasLeft, sending_answer};
@@ -19,6 +20,7 @@ pub extern "C" fn dcc_sender_start(sender: &mut Halves, frame: &[u8], timing: &D
     ensures answer { result ≡ sending_answer frame.now timing.now }
     ensures starts { result ≡ 0 →
         (made : Timing) × (timing.now ≡ timing_numbers made) × HasLeft sender.new (sent frame.now made) }
+    ensures frame { result ≡ 0 → IsFrame frame.now }
     ensures kept { result ≢ 0 → sender.new ≡ sender.old }
 {
     match started(frame, timing) {
@@ -35,7 +37,7 @@ pub extern "C" fn dcc_sender_start(sender: &mut Halves, frame: &[u8], timing: &D
 fn started(frame: &[u8], timing: &DccTiming) -> Result<Halves, u8>
     ensures { MatchResult result
         (λ s. (sending_answer frame.now timing.now ≡ 0)
-        × (made : Timing) × (timing.now ≡ timing_numbers made) × HasLeft s (sent frame.now made))
+        × ((made : Timing) × (timing.now ≡ timing_numbers made) × HasLeft s (sent frame.now made)) × IsFrame frame.now)
         (λ number. (number ≡ sending_answer frame.now timing.now) × (1 ≤ number)) }
 {
     let timing = timing_of(timing)?;
@@ -50,6 +52,7 @@ pub extern "C" fn dcc_sender_half(sender: &mut Halves) -> u16
     ensures half { (us : ℕ) (later : List ℕ) → HasLeft sender.old (us ∷ later)
         → (result ≡ us) × HasLeft sender.new later }
     ensures end { HasLeft sender.old [] → result ≡ 0 }
+    ensures ended { result ≡ 0 → HasLeft sender.old [] }
     ensures next { result ≢ 0 → halves_left sender.old ≡ result ∷ halves_left sender.new }
     ensures kept { result ≡ 0 → sender.new ≡ sender.old }
 {

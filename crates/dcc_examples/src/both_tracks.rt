@@ -6,7 +6,7 @@ ghost use Rattle.dcc_track.specs.Laws.{HearsFrames};
 ghost use Rattle.dcc_track.specs.Track.{track_of};
 ghost use Rattle.dcc_track.specs.declared.answer.TrackAnswer.{TrackAnswer};
 
-use dcc_track::{Programmable, TrackDecoder};
+use dcc_track::{Programmable, TrackDecoder, laws};
 use dcc_wire::Frame;
 
 /// Lets a decoder hear frames, one after the other. Returns true if the decoder acknowledges one of
@@ -16,6 +16,7 @@ pub fn hear_frames<D: Programmable>(decoder: &mut TrackDecoder<D>, frames: &[Fra
         × HearsFrames (track_of D.state decoder.old) frames.now (track_of D.state decoder.new) answers
         × (result ≡ list_any (λ (answer : TrackAnswer). answer.acknowledged) answers) }
 {
+    laws::frames_are_heard();
     let mut yes = false;
     for frame in frames {
         yes |= decoder.hear(frame).acknowledged;

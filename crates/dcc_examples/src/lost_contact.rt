@@ -1,5 +1,5 @@
-//! A locomotive that loses contact with the rails during the first packet of a track. The locomotive
-//! misses at most this packet and the next one.
+//! A locomotive that loses contact with the rails during a packet. The locomotive misses at most this
+//! packet and the next one.
 
 ghost use Rattle.std.specs.Prelude.{◌≡◌, ◌≤◌, ◌+◌, ◌∷◌, ◌++◌, ℕ, List, length, take, drop, IfOk};
 ghost use Rattle.dcc_wire.specs.Framing.{seen};
@@ -11,15 +11,20 @@ use std::alloc::Global;
 use std::io;
 
 /// Returns the half-bits of a track without the half-bits with the numbers `from` to `to - 1`. If
-/// the missing half-bits belong to the first packet on the track, a framer sees the third packet
-/// and all later packets. The framer sees each of these packets at the last half-bit of the packet.
+/// the missing half-bits belong to one packet, a framer sees all packets before it, and all packets
+/// after the next packet. The framer sees each of these packets at the last half-bit of the packet.
 pub fn with_gap(alloc: Global, track: &[u16], from: usize, to: usize) -> io::Result<Vec<u16>>
     requires { (from ≤ to) × (to ≤ length track.now) }
-    ensures { IfOk result (λ heard. (packet next : Sent) (others : List Sent) → AllFrames (next ∷ others)
-        → track.now ≡ sent_all (packet ∷ next ∷ others) → to ≤ length (sent packet.bytes packet.timing)
-        → (before : List (ℕ × Seen)) × (place : ℕ) × (place + length (sent_all others) ≡ length heard.items)
-        × (seen heard.items ≡ before ++ at_last_halves place others)) }
+    ensures { IfOk result (λ heard. (earlier : List Sent) (packet next : Sent) (others : List Sent)
+        → AllFrames earlier → AllFrames (next ∷ others)
+        → track.now ≡ sent_all earlier ++ sent_all (packet ∷ next ∷ others)
+        → length (sent_all earlier) ≤ from
+        → to ≤ length (sent_all earlier) + length (sent packet.bytes packet.timing)
+        → (between : List (ℕ × Seen)) × (place : ℕ) × (place + length (sent_all others) ≡ length heard.items)
+        × (seen heard.items ≡ at_last_halves 0 earlier ++ between ++ at_last_halves place others)) }
 {
+    laws::sent_packets_are_seen();
+    laws::more_halves_only_add();
     laws::noise_costs_at_most_the_first_packet();
     let heard = without(alloc, track, from, to)?;
     Ok(heard)

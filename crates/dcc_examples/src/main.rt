@@ -16,6 +16,7 @@ mod encoded_and_listed;
 mod equal_again;
 mod first_call;
 mod lost_contact;
+mod lost_packets;
 mod measured_track;
 mod own_board;
 mod own_streams;
@@ -144,6 +145,8 @@ fn receive<R: Print>(rt: &R, alloc: Global) -> Result<(), Fault> {
     let to = track.len().min(84);
     let heard = lost_contact::with_gap(alloc, track.as_slice(), to.min(66), to)?;
     print_heard(rt, heard.as_slice())?;
+    let lost = lost_packets::count_lost(heard.as_slice());
+    println!(rt; "lost packets: {lost}")?;
     Ok(())
 }
 

@@ -1,11 +1,11 @@
 -- The start bits of the last three bytes of a body.
 use Rattle.std.proofs.Common.{◌≡◌, ℕ, ◌+◌, ◌-◌, ◌*◌, ◌<◌, ◌≤◌, List, [], ◌∷◌, ◌++◌, length, drop, get_or, map}
-use Rattle.std.proofs.Common.{replicate}
+use Rattle.std.proofs.Common.{◌≢◌, replicate, subst, take, take_all}
 use Rattle.std.proofs.Common.{Bool, true, false, if◌then◌else◌, Option, Some, None, refl, sym, ap, ◌∙◌, arith}
 use Rattle.std.proofs.Common.{append_assoc, length-append}
 use Rattle.std.proofs.Common.{length-drop}
 use Rattle.std.proofs.Math.Seq.{drop-append_seam, get_or-append_seam}
-use Rattle.std.proofs.lemmas.List.{drop-map, length-map, get_or-append-add, get_or-map}
+use Rattle.std.proofs.lemmas.List.{drop-map, length-map, get_or-append-add, get_or-drop, get_or-map, take_more}
 use Rattle.std.specs.Option.{option_or, option_map}
 use Rattle.dcc_wire.specs.declared.half.Half.{Half}
 use Rattle.dcc_wire.specs.declared.half.Half.TheVariants.{One, Zero, Bad}
@@ -18,7 +18,7 @@ use Rattle.dcc_lost.specs.Nearest.{nearest_class}
 use Rattle.dcc_lost.specs.Lost.{frame_at_end, longest_frame_at_end}
 use Rattle.dcc_lost.specs.Inner.{HasStartBits}
 use Rattle.dcc_lost.specs.LostLaws.{EndsWithFrame}
-use Rattle.dcc_lost.proofs.LawLemmas.{length-body, ends_with}
+use Rattle.dcc_lost.proofs.LawLemmas.{last_is_one, length-body, ends_with}
 
 abbrev byte_before : ℕ → List Bool
 byte_before byte = false ∷ bits_of 8 byte
@@ -136,6 +136,27 @@ body_begins durations frame ends =
           ∙ first_of_body frame (omega (arith, ends.frame_rule.least)))),
     )
 
+-- the last half-bit of a frame
+
+last_at_end : (durations frame : List ℕ) → EndsWithFrame durations frame
+    → nearest_class (get_or durations (length durations - 1) 0) ≡ One
+last_at_end durations frame ends =
+    let behind : List Half = replicate 8 One ++ body frame in
+    let some : 0 < length durations = omega (
+      arith,
+      length-map durations nearest_class,
+      ap length ends.halves,
+      length-append ends.before behind,
+      length-append (replicate 8 One) (body frame),
+      length-body frame,
+    ) in
+    let last : ℕ = get_or durations (length durations - 1) 0 in
+    let next : length durations ≡ (length durations - 1) + 1 = omega (arith, some) in
+    let split : durations ≡ take (length durations - 1) durations ++ last ∷ [] =
+    sym (take_all (length durations) durations (omega arith)) ∙ ap (λ n. take n durations) next
+    ∙ take_more durations (length durations - 1) 0 (omega (arith, some)) in
+    last_is_one (take (length durations - 1) durations) last frame (subst (λ l. EndsWithFrame l frame) split ends)
+
 -- without the first half-bits of a body no frame is at the end
 pub no_body : (durations : List ℕ)
     → ((m : ℕ) → 3 ≤ m → m ≤ 6 → HasStartBits (keep_last 56 durations)
@@ -158,6 +179,27 @@ no_body durations none =
     alone : (a : Option (List ℕ)) → ((frame : List ℕ) → a ≡ Some frame → ⊥) → a ≡ None
     alone None not_it = refl
     alone (Some frame) not_it = absurd (not_it frame refl)
+
+-- unless the last half-bit is half of a one, no frame is at the end
+pub no_end : (durations last : List ℕ) (us : ℕ) → last ≡ keep_last 1 durations → us ≡ get_or last 0 0
+    → nearest_class us ≢ One → longest_frame_at_end durations ≡ None
+unfolding longest_frame_at_end
+no_end durations last us is first other =
+    no_first (frame_at_end 6 durations) _ (not_at_end 6)
+    (no_first (frame_at_end 5 durations) _ (not_at_end 5)
+    (no_first (frame_at_end 4 durations) _ (not_at_end 4) (none_of (frame_at_end 3 durations) (not_at_end 3))))
+  where
+    us_is : us ≡ get_or durations (length durations - 1) 0
+    us_is = first ∙ ap (λ l. get_or l 0 0) is ∙ get_or-drop (length durations - 1) durations 0 0
+        ∙ ap (λ n. get_or durations n 0) (omega arith)
+
+    not_at_end : (m : ℕ) (frame : List ℕ) → frame_at_end m durations ≡ Some frame → ⊥
+    not_at_end m frame e =
+        other (ap nearest_class us_is ∙ last_at_end durations frame (ends_with m durations frame e).0)
+
+    none_of : (a : Option (List ℕ)) → ((frame : List ℕ) → a ≡ Some frame → ⊥) → a ≡ None
+    none_of None not_it = refl
+    none_of (Some frame) not_it = absurd (not_it frame refl)
 
 -- without the start bits of three bytes no frame is at the end
 pub no_frame : (durations : List ℕ) → (HasStartBits (keep_last 56 durations) → ⊥) → longest_frame_at_end durations

@@ -367,7 +367,7 @@ last_half_same xs ys x y e =
     let turned : x ∷ reverse xs ≡ y ∷ reverse ys =
     sym (reverse-append xs (x ∷ [])) ∙ ap reverse e ∙ reverse-append ys (y ∷ []) in cc
 
-last_is_one : (durations : List ℕ) (us : ℕ) (frame : List ℕ) → EndsWithFrame (durations ++ us ∷ []) frame
+pub last_is_one : (durations : List ℕ) (us : ℕ) (frame : List ℕ) → EndsWithFrame (durations ++ us ∷ []) frame
     → nearest_class us ≡ One
 last_is_one durations us frame ends =
     let end = body_ends frame in

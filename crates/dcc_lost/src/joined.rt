@@ -10,8 +10,9 @@ ghost use Rattle.dcc_wire.specs.Kept.{kept_rest};
 ghost use Rattle.dcc_lost.specs.Finding.{since_of};
 
 use crate::causes::{LostPacket, first_or_zero};
-use crate::finder::longest_frame_at_end;
+use crate::finder::{has_start_bits, longest_frame_at_end};
 use crate::heard::Heard;
+use crate::nearest::is_nearest_one;
 use crate::rings::{causes_of, exact, sum_of};
 use dcc_timing::LastNumbers;
 use dcc_wire::{Frame, Seen};
@@ -230,6 +231,13 @@ fn packet_at_end(heard: &Heard, closed: &ClosedHalves) -> Option<SpikedPacket>
         → IsClosed limit (joined limit durations) closed.now → result ≡ packet_found limit durations }
 {
     if !is_free_end(heard) {
+        return None;
+    }
+    // most joined half-bits are no end of a packet
+    if !is_nearest_one(first_or_zero(closed.durations.last(1))) {
+        return None;
+    }
+    if !has_start_bits(closed.durations.last(56)) {
         return None;
     }
     match longest_frame_at_end(&closed.durations) {

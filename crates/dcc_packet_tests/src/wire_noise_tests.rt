@@ -138,11 +138,31 @@ fn any_duration(noise: &mut Noise) -> u16 {
     }
 }
 
+/// Asserts that the framer and the simple search agree on 5,000 packets of which one in `one_in`
+/// half-bits has another duration.
+fn agree_through_noise(rt: &impl Abort, alloc: Global, one_in: u32) {
+    let durations = noisy(alloc, one_in).expect(rt, "memory");
+    let outcomes = agree(rt, alloc, durations.as_slice());
+    check_at(rt, outcomes > 100, one_in);
+}
+
+// each test has its own time limit
 #[test]
-fn five_thousand_packets_through_noise(rt: HostRuntime) {
-    for one_in in [1000, 100, 10, 3] {
-        let durations = noisy(rt.alloc(), one_in).expect(&rt, "memory");
-        let outcomes = agree(&rt, rt.alloc(), durations.as_slice());
-        check_at(&rt, outcomes > 100, one_in);
-    }
+fn five_thousand_packets_with_one_in_1000_halves_changed(rt: HostRuntime) {
+    agree_through_noise(&rt, rt.alloc(), 1000);
+}
+
+#[test]
+fn five_thousand_packets_with_one_in_100_halves_changed(rt: HostRuntime) {
+    agree_through_noise(&rt, rt.alloc(), 100);
+}
+
+#[test]
+fn five_thousand_packets_with_one_in_10_halves_changed(rt: HostRuntime) {
+    agree_through_noise(&rt, rt.alloc(), 10);
+}
+
+#[test]
+fn five_thousand_packets_with_one_in_3_halves_changed(rt: HostRuntime) {
+    agree_through_noise(&rt, rt.alloc(), 3);
 }

@@ -82,6 +82,52 @@ fn send_with_errors(rt: &impl Abort, alloc: Global, noise: &mut Noise) {
     shows(rt, alloc, track.as_slice(), sent.as_slice());
 }
 
+/// Returns the number of packets that are seen if a station sends one packet with ones of `one`
+/// microseconds, and each half-bit of a one is measured as `measured` microseconds.
+fn seen_with_error(rt: &impl Abort, alloc: Global, one: u16, measured: u16) -> usize {
+    let frame = Frame::with_error_byte(&[3, 98]).expect(rt, "a frame");
+    let timing = Timing::new(one, 100, 100, 14).expect(rt, "a timing");
+    let mut track = Vec::new(alloc);
+    send(rt, &mut track, frame, timing);
+    for us in track.iter_mut() {
+        if *us == one {
+            *us = measured;
+        }
+    }
+    outcomes(alloc, track.as_slice()).expect(rt, "memory").len()
+}
+
+/// The errors of 3 microseconds, and of 6 microseconds with nominal half-bits, are the largest ones.
+#[test]
+fn larger_errors_lose_a_packet(rt: HostRuntime) {
+    for (one, error) in [(55, 3), (61, 3), (58, 6)] {
+        let (less, more) = (one - error, one + error);
+        let kept = (
+            seen_with_error(&rt, rt.alloc(), one, less),
+            seen_with_error(&rt, rt.alloc(), one, more),
+        );
+        check_at(&rt, kept == (1, 1), u32::from(one));
+    }
+    for (one, measured) in [(55, 51), (61, 65), (58, 51), (58, 65)] {
+        let seen = seen_with_error(&rt, rt.alloc(), one, measured);
+        check_at(&rt, seen == 0, u32::from(measured));
+    }
+}
+
+/// After noise with an open body, the first packet is lost. The second packet is seen.
+#[test]
+fn noise_can_cost_the_first_packet(rt: HostRuntime) {
+    let mut track = Vec::new(rt.alloc());
+    push_times(&mut track, 58, 20).expect(&rt, "memory");
+    push_times(&mut track, 100, 2).expect(&rt, "memory");
+    let frame = Frame::with_error_byte(&[3, 98]).expect(&rt, "a frame");
+    let first = send(&rt, &mut track, frame, Timing::main());
+    let second = send(&rt, &mut track, frame, Timing::main());
+    let shown = answers(rt.alloc(), track.as_slice()).expect(&rt, "memory");
+    check(&rt, !shown.as_slice().contains(&first), "the first packet");
+    check(&rt, shown.as_slice().contains(&second), "the second packet");
+}
+
 /// Returns noise: the first half-bits of a packet, or any half-bits.
 fn any_half_bits(rt: &impl Abort, alloc: Global, noise: &mut Noise) -> Vec<u16> {
     let mut halves = Vec::new(alloc);

@@ -27,6 +27,7 @@ use Rattle.dcc_station.specs.Sending.{with_command, with_entry, with_stop, forgo
 use Rattle.dcc_station.specs.Sending.{stop_packet, not_withdrawn}
 use Rattle.dcc_station.specs.Stops.{RunsWithout, stays, accepts_one, returns_one, forgets_one, stops_one}
 use Rattle.dcc_station.specs.Stops.{NoStepAfterStops, LocosStandAfterStops, LocoStandsUntilItsOwnStep, moves_loco}
+use Rattle.dcc_station.specs.Stops.{NoWithdrawnCommandIsSent}
 use Rattle.dcc_station.specs.Stops.{StandingGoesOnByPackets, StandingGoesOnByCommands}
 use Rattle.dcc_station.specs.Stops.{StandingGoesOnByForgetting, StandingGoesOnByStops}
 use Rattle.dcc_station.proofs.EntriesForgotten.{all_left}
@@ -215,15 +216,21 @@ module _ (moves : Packet → Bool) (fewer : (p : Packet) → can_move p ≡ fals
   begins_with_stop _ _ _ (forgets_one s new packets to run) is = begins_with_stop (forgotten s to) new packets run is
   begins_with_stop _ _ _ (stops_one s new packets run) is = begins_with_stop (stopped s) new packets run refl
 
-none_moves : (l : List Packet) → AllByRecursion (Still can_move (λ p still. still)) l → list_any can_move l ≡ false
-none_moves [] all = refl
-none_moves (p ∷ l) all = rw (all.0, none_moves l all.1) refl
+none_moves : (moves : Packet → Bool) (l : List Packet) → AllByRecursion (λ p. moves p ≡ false) l
+    → list_any moves l ≡ false
+none_moves moves [] all = refl
+none_moves moves (p ∷ l) all = rw (all.0, none_moves moves l all.1) refl
 
 pub no_step : NoStepAfterStops
 no_step s new first packets run =
     let same = λ (p : Packet) (still : can_move p ≡ false). still in
     let all = run_is_still can_move same (stopped s) new (first ∷ packets) run (stopped_is_calm can_move same s) in
-    (begins_with_stop can_move same (stopped s) new (first ∷ packets) run refl, none_moves (first ∷ packets) all)
+    let begins = begins_with_stop can_move same (stopped s) new (first ∷ packets) run refl in
+    (begins, none_moves can_move (first ∷ packets) all)
+
+pub no_withdrawn : NoWithdrawnCommandIsSent
+no_withdrawn moves s new packets fewer run =
+    none_moves moves packets (run_is_still moves fewer (stopped s) new packets run (stopped_is_calm moves fewer s))
 
 pub stop_is_heard : (active : Option Address) → hears (LocoWho active) stop_packet ≡ true
 stop_is_heard active = hears_at active stop_packet

@@ -137,6 +137,15 @@ LocosStandAfterStops =
     → RunsWithout can_move (stopped s) packets new → 0 < length packets → is_some (start SpeedRegister) ≡ true
     → is_standing (result (Loco active) start (before ++ packets) SpeedRegister) ≡ true
 
+-- let a station be stopped, and then accept no command for which `moves` is true, for example no
+-- command that is equal to a withdrawn one. Then it sends no such command. Each command for which
+-- `moves` is true sets a speed to a step, so the stop withdraws it if it waits.
+abbrev pub NoWithdrawnCommandIsSent : Type 0
+NoWithdrawnCommandIsSent =
+    (moves : Packet → Bool) (s new : Sending) (packets : List Packet)
+    → ((p : Packet) → can_move p ≡ false → moves p ≡ false)
+    → RunsWithout moves (stopped s) packets new → list_any moves packets ≡ false
+
 -- a stop does not set the direction of a locomotive, in any speed mode
 abbrev pub StopsLeaveDirections : Type 0
 StopsLeaveDirections = (mode : SpeedMode) → sets mode stop_packet Direction ≡ None

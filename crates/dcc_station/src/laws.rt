@@ -9,7 +9,7 @@ ghost use Rattle.dcc_station.specs.States.{StatesAreNoEntries, StatesConflictWit
 ghost use Rattle.dcc_station.specs.Stops.{BroadcastsAreNoEntries, LocosStandAfterStops, LocoStandsUntilItsOwnStep};
 ghost use Rattle.dcc_station.specs.Stops.{CommandsWaitForFewPacketsAfterStops, PacketsAreSentInTurn};
 ghost use Rattle.dcc_station.specs.LaterStops.{CommandsWaitWithLaterStops};
-ghost use Rattle.dcc_station.specs.Stops.{NoStepAfterStops, NoStopWaitsUnasked};
+ghost use Rattle.dcc_station.specs.Stops.{NoStepAfterStops, NoStopWaitsUnasked, NoWithdrawnCommandIsSent};
 ghost use Rattle.dcc_station.specs.Stops.{StandingGoesOnByCommands, StandingGoesOnByForgetting};
 ghost use Rattle.dcc_station.specs.Stops.{StandingGoesOnByPackets, StandingGoesOnByStops};
 ghost use Rattle.dcc_station.specs.Stops.{StationsThatRepresentObey, StopsAreTransparent, StopsLeaveDirections};
@@ -145,6 +145,14 @@ pub fn locos_stand_after_stops()
 /// its address. The station can accept other commands, forget entries and be stopped again.
 pub fn loco_stands_until_its_own_step()
     ensures { LocoStandsUntilItsOwnStep }
+{}
+
+/// Theorem: after [`stop`](crate::StationOver::stop), no further copy of a withdrawn command is sent. A
+/// withdrawn command sets a speed to a step. An equal command that the station accepts later is
+/// another command. The theorem is about any set of commands that set a speed to a step, and of which
+/// the station accepts none after the stop.
+pub fn no_withdrawn_command_is_sent()
+    ensures { NoWithdrawnCommandIsSent }
 {}
 
 /// Theorem: the relation `RunsWithout moves` holds for the packets that a station returns, as long

@@ -218,8 +218,8 @@ impl<Q: PacketRing, S: PacketRing> StationOver<Q, S> {
     /// in a row. If a stop already waits, the number of its copies starts again.
     ///
     /// The first copy of the stop removes the entries that conflict with the stop, as the first
-    /// copy of a command does. So no locomotive moves again before the station accepts a command
-    /// that sets a speed to a step.
+    /// copy of a command does. So a locomotive that hears a copy of the stop, and all later packets,
+    /// stands until the station accepts a command that sets a speed to a step.
     pub fn stop(&mut self) -> usize
         ensures stops { self.new ≡ stopped self.old }
         ensures withdrawn { result ≡ length (filter can_move self.old.waiting) }

@@ -255,3 +255,34 @@ fn stops_can_cost_the_longest_wait(rt: HostRuntime) {
         }
     }
 }
+
+/// Lets a station accept `ahead` own writes, stops it, and lets it accept a tested write. Returns the
+/// number of packets before the first copy of the tested write.
+fn wait_after_a_stop(rt: &impl Abort, alloc: Global, repeats: u8, ahead: u8) -> u32 {
+    let mut station = Station::new(alloc, 12, 6, repeats).expect(rt, "a station");
+    for number in 0..ahead {
+        let to = Address::short(number.saturating_add(1)).expect(rt, "an address");
+        accepts(rt, &mut station, write(rt, to, 3, 7));
+    }
+    station.stop();
+    let to = Address::short(100).expect(rt, "an address");
+    let tested = write(rt, to, 3, 7);
+    accepts(rt, &mut station, tested);
+    for before in 0..200u32 {
+        if station.next().is(&tested) {
+            return before;
+        }
+    }
+    200
+}
+
+#[test]
+fn a_stop_that_waits_can_cost_its_copies(rt: HostRuntime) {
+    for ahead in 0..5u8 {
+        for repeats in 1..9u8 {
+            let before = wait_after_a_stop(&rt, rt.alloc(), repeats, ahead);
+            let most = u32::from(ahead) * (u32::from(repeats) + 1) + u32::from(repeats);
+            check_at(&rt, before == most, before);
+        }
+    }
+}

@@ -5,3 +5,4 @@ pub mod LocoLemmas
 pub mod PlainLemmas
 pub mod MachineLemmas
 pub mod BoardLemmas
+pub mod FrameLemmas

@@ -11,7 +11,8 @@ use Rattle.dcc_service.specs.declared.packet.ServicePacket.{ServicePacket}
 use Rattle.dcc_service.specs.Machine.{ServiceState, Step, reset_bytes}
 use Rattle.dcc_service.specs.Table.{service_spelling}
 use Rattle.dcc_track.specs.declared.answer.TrackAnswer.{TrackAnswer}
-use Rattle.dcc_track.specs.DecoderState.{DecoderState, after_power_up}
+use Rattle.dcc_regs.specs.declared.register.Who.{Who}
+use Rattle.dcc_track.specs.DecoderState.{DecoderState, after_power_up, cvs_after}
 use Rattle.dcc_track.specs.Laws.{HearsFrames, IsPlain, MainOnlyIsPlain, NoServicePacketAfterReset}
 use Rattle.dcc_track.specs.Laws.{WithoutServicePacketsIsPlain}
 use Rattle.dcc_track.specs.Track.{HearsFrame, HearsOnBoth, HearsOnMain, TrackState, has_new_cvs, service_part}
@@ -27,7 +28,13 @@ is_reset_or_not frame =
 
 -- no frame leaves a plain decoder as it is
 pub plain_nothing : (d : DecoderState) → IsPlain [] d d []
-plain_nothing d = record { silent = refl; packets = []; spelled = refl; heard = heard_nothing d.who d.registers }
+plain_nothing d = record {
+  silent = refl;
+  packets = [];
+  spelled = refl;
+  heard = heard_nothing d.who d.registers;
+  board_cvs = λ own is. refl;
+}
 
 -- one frame, and then the others
 pub plain_more : (frame : List ℕ) (frames : List (List ℕ)) (before next after : DecoderState) (answer : TrackAnswer)
@@ -41,6 +48,10 @@ plain_more frame frames before next after answer answers silent one rest =
       packets = one.packet ∷ rest.packets;
       spelled = rw (one.spelled, rest.spelled) refl;
       heard = heard_more first rest.heard;
+      board_cvs = λ own is.
+          rest.board_cvs own (first.same_who ∙ is)
+          ∙ ap (λ (d : DecoderState). d.cvs) one.applied
+          ∙ ap (λ (who : Who). cvs_after who before.registers before.cvs one.packet) is;
     }
 
 -- the decoder stays on the main track

@@ -23,13 +23,27 @@ HearsFrames before (frame ∷ frames) after [] = ⊥
 HearsFrames before (frame ∷ frames) after (answer ∷ answers) =
     (next : TrackState) × HearsFrame before frame next answer × HearsFrames next frames after answers
 
+-- a decoder that has heard no frame has its first state
+abbrev pub NoFrameHeard : Type 0
+NoFrameHeard = (state : TrackState) → HearsFrames state [] state []
+
+-- a decoder in state `now` has heard frames, and hears one more frame. It has then heard the list with
+-- this frame at its end.
+abbrev pub OneMoreFrameHeard : Type 0
+OneMoreFrameHeard =
+    (before now after : TrackState) (frames : List (List ℕ)) (answers : List TrackAnswer) (frame : List ℕ)
+    (answer : TrackAnswer) → HearsFrames before frames now answers → HearsFrame now frame after answer
+    → HearsFrames before (frames ++ frame ∷ []) after (answers ++ answer ∷ [])
+
 -- a plain decoder with the identity and the registers of `before` hears the packets of the frames
 -- `frames`. It has the identity and the registers of `after` then. `answers` acknowledge no frame.
+-- The CVs of an accessory decoder do not change.
 pub record IsPlain (frames : List (List ℕ)) (before after : DecoderState) (answers : List TrackAnswer) : Type 0 where
   pub silent : map (λ answer. answer.acknowledged) answers ≡ map (λ frame. false) frames
   pub packets : List Packet
   pub spelled : map spelling packets ≡ frames
   pub heard : HasHeard packets before.who before.registers after.who after.registers
+  pub board_cvs : (own : Board) → before.who ≡ BoardWho own → after.cvs ≡ before.cvs
 
 -- no service packet comes directly after a reset. So no service packet comes after a reset while
 -- service mode lasts, because a frame that is neither a reset nor a service packet ends service
